@@ -1,0 +1,19 @@
+//! What every layer stands on: small types that contracts see as lists, the error that has room for
+//! want of memory, and the desk through which files are read and written.
+#![tactic(auto)]
+
+mod aux_fault;
+mod bytes;
+mod desk;
+mod end;
+mod seq;
+mod text;
+mod whole;
+
+pub use aux_fault::AuxFault;
+pub use bytes::Bytes;
+pub use desk::{Desk, DeskFault};
+pub use end::End;
+pub use seq::Seq;
+pub use text::Text;
+pub use whole::{MOST, ReadEnd, WriteFault, read_whole, write_whole};
