@@ -2,6 +2,14 @@
 //! program does.
 #![tactic(auto)]
 
+mod answer;
+mod files;
+mod format_fault;
+mod note;
+mod thin;
 mod words;
 
-pub use words::{Job, WordName};
+pub use answer::{Answer, Role};
+pub use format_fault::FormatFault;
+pub use note::note_text;
+pub use words::{Job, Need, WordName, usage, value_in};

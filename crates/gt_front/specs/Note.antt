@@ -1,0 +1,31 @@
+-- The line that the program prints of an answer.
+use Rattle.std.specs.Prelude.{ℕ, List, ◌++◌, codes}
+use Rattle.std.specs.Fmt.{decimal}
+use Rattle.gt_front.specs.declared.answer.Answer.{Answer}
+use Rattle.gt_front.specs.declared.answer.Answer.TheVariants.{Done, Usage, ReadFault, WriteFault, Memory, TooLarge, Format, NotYet}
+use Rattle.gt_front.specs.declared.answer.Role.{Role}
+use Rattle.gt_front.specs.declared.answer.Role.TheVariants.{In, Patch, Layout, Input}
+use Rattle.gt_front.specs.declared.format_fault.FormatFault.{FormatFault}
+use Rattle.gt_front.specs.declared.format_fault.FormatFault.TheVariants.{Version}
+
+-- a role in a note
+abbrev pub role_name : Role → List ℕ
+role_name In = codes "in"
+role_name Patch = codes "patch"
+role_name Layout = codes "layout"
+role_name Input = codes "input"
+
+-- what is wrong with a file, and its numbers
+abbrev pub format_note : FormatFault → List ℕ
+format_note (Version byte field) = codes "version " ++ (decimal byte ++ (codes " and " ++ decimal field))
+
+-- the line of an answer
+abbrev pub note : Answer → List ℕ
+note (Done text) = text
+note (Usage index) = codes "usage: word " ++ decimal index
+note (ReadFault role) = codes "read fault: " ++ role_name role
+note WriteFault = codes "write fault"
+note Memory = codes "memory"
+note (TooLarge role) = codes "too large: " ++ role_name role
+note (Format fault) = codes "format: " ++ format_note fault
+note NotYet = codes "not yet"

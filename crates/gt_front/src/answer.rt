@@ -1,0 +1,49 @@
+ghost use Rattle.std.specs.Prelude.{◌≡◌};
+ghost use Rattle.gt_front.specs.Answer.{status_of};
+
+use crate::format_fault::FormatFault;
+use gr_base::Text;
+
+/// What an input file is to a job, in the order in which they are read.
+#[derive(Clone, Copy, Debug, PartialEq, Eq)]
+pub enum Role {
+    In,
+    Patch,
+    Layout,
+    Input,
+}
+
+/// How a job ended.
+#[derive(Debug, Drop)]
+pub enum Answer {
+    /// The job is done, with its text.
+    Done(Text),
+    /// The first word that breaks the rules, counted from 0, or the number of words where only a
+    /// required one is missing.
+    Usage(u64),
+    ReadFault(Role),
+    WriteFault,
+    Memory,
+    TooLarge(Role),
+    Format(FormatFault),
+    /// The file was read whole, and isn't one of those that can be taken so far.
+    NotYet,
+}
+
+impl Answer {
+    /// The exit status of the program.
+    pub fn status(&self) -> u8
+        ensures { result ≡ status_of self.now }
+    {
+        match self {
+            Answer::Done(_) => 0,
+            Answer::Usage(_) => 2,
+            Answer::ReadFault(_) => 3,
+            Answer::WriteFault => 4,
+            Answer::Memory => 5,
+            Answer::TooLarge(_) => 6,
+            Answer::Format(_) => 7,
+            Answer::NotYet => 99,
+        }
+    }
+}

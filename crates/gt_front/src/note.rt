@@ -1,0 +1,56 @@
+ghost use Rattle.std.specs.Prelude.{◌≡◌, Some, IfOk};
+ghost use Rattle.gt_front.specs.Note.{note, role_name, format_note};
+
+use crate::answer::{Answer, Role};
+use crate::format_fault::FormatFault;
+use gr_base::Text;
+use std::alloc::{AllocError, Global};
+use std::fmt;
+
+impl fmt::Display for Role {
+    ghost output = { λ role. Some (role_name role) };
+
+    fn fmt<W: fmt::Write>(&self, f: &mut fmt::Formatter<W>) -> fmt::Result {
+        match self {
+            Role::In => write!(f, "in"),
+            Role::Patch => write!(f, "patch"),
+            Role::Layout => write!(f, "layout"),
+            Role::Input => write!(f, "input"),
+        }
+    }
+}
+
+impl fmt::Display for FormatFault {
+    ghost output = { λ fault. Some (format_note fault) };
+
+    fn fmt<W: fmt::Write>(&self, f: &mut fmt::Formatter<W>) -> fmt::Result {
+        match self {
+            FormatFault::Version(byte, field) => write!(f, "version {byte} and {field}"),
+        }
+    }
+}
+
+impl fmt::Display for Answer {
+    ghost output = { λ answer. Some (note answer) };
+
+    fn fmt<W: fmt::Write>(&self, f: &mut fmt::Formatter<W>) -> fmt::Result {
+        match self {
+            Answer::Done(text) => f.write_str(text.as_str()),
+            Answer::Usage(index) => write!(f, "usage: word {index}"),
+            Answer::ReadFault(role) => write!(f, "read fault: {role}"),
+            Answer::WriteFault => write!(f, "write fault"),
+            Answer::Memory => write!(f, "memory"),
+            Answer::TooLarge(role) => write!(f, "too large: {role}"),
+            Answer::Format(fault) => write!(f, "format: {fault}"),
+            Answer::NotYet => write!(f, "not yet"),
+        }
+    }
+}
+
+/// The line that the program prints of an answer, without its end.
+pub fn note_text(alloc: Global, answer: &Answer) -> Result<Text, AllocError>
+    ensures { IfOk result (λ text. text ≡ note answer.now) }
+{
+    let text = answer.to_string(alloc)?;
+    Ok(Text::from_string(text))
+}

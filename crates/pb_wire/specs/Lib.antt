@@ -1,0 +1,5 @@
+pub mod Ahead
+pub mod Varint
+pub mod Records
+pub mod Faults
+pub mod Reading
