@@ -1,7 +1,7 @@
 -- What the calls of a desk do to its files and to its counts.
-use Rattle.std.specs.Prelude.{◌≡◌, ◌⊎◌, ◌≢◌, ◌<◌, ◌≤◌, ◌↔◌, ℕ, ◌+◌, ◌-◌, ◌^◌, min, Bool, IsTrue, List, [], ◌++◌, length, take, drop, Option, Some, None, IsSome, Result, Ok, Err}
+use Rattle.std.specs.Prelude.{◌≡◌, ◌⊎◌, ◌≢◌, ◌≤◌, ◌↔◌, ℕ, ◌+◌, ◌-◌, ◌^◌, min, List, ◌++◌, length, take, drop, Option, Some, None, IsSome, Result, Err}
 use Rattle.gr_base.specs.declared.desk.DeskFault.{DeskFault}
-use Rattle.gr_base.specs.declared.desk.DeskFault.TheVariants.{Failed, Memory}
+use Rattle.gr_base.specs.declared.desk.DeskFault.TheVariants.{Failed}
 
 -- what each name holds, if anything
 abbrev pub Files : Type 0

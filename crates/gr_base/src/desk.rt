@@ -3,11 +3,36 @@ ghost use Rattle.std.specs.Result.{result_unwrap_or};
 ghost use Rattle.gr_base.specs.declared.desk.DeskFault.TheVariants.{Failed, Memory};
 ghost use Rattle.gr_base.specs.Desk.{Files, Told, ToldBoth, SameFiles, Leaves, LeavesPrefix, Adds, Fetches, HasCause, MadeIsHeld, counted};
 
+use std::alloc::AllocError;
+use std::io;
+
 /// Why a desk refused a call.
 #[derive(Clone, Copy, Debug, PartialEq, Eq)]
 pub enum DeskFault {
     Failed,
     Memory,
+}
+
+impl From<AllocError> for DeskFault {
+    ghost use Rattle.std.specs.Prelude.{◌≡◌};
+    ghost use Rattle.gr_base.specs.declared.desk.DeskFault.TheVariants.{Memory};
+
+    ghost from_gives = { λ _ fault. fault ≡ Memory };
+
+    fn from(_: AllocError) -> DeskFault {
+        DeskFault::Memory
+    }
+}
+
+impl From<io::Error> for DeskFault {
+    ghost use Rattle.std.specs.Prelude.{◌≡◌};
+    ghost use Rattle.gr_base.specs.declared.desk.DeskFault.TheVariants.{Failed};
+
+    ghost from_gives = { λ _ fault. fault ≡ Failed };
+
+    fn from(_: io::Error) -> DeskFault {
+        DeskFault::Failed
+    }
 }
 
 /// A place with files: what a job reads from and writes to.

@@ -4,9 +4,14 @@
 
 mod aux_fault;
 mod bytes;
+mod counts;
 mod desk;
 mod end;
+mod honest_desk;
+mod mem_desk;
+mod real_desk;
 mod seq;
+mod store;
 mod text;
 mod whole;
 
@@ -14,6 +19,12 @@ pub use aux_fault::AuxFault;
 pub use bytes::Bytes;
 pub use desk::{Desk, DeskFault};
 pub use end::End;
+pub use honest_desk::HonestDesk;
+pub use mem_desk::MemDesk;
+pub use real_desk::RealDesk;
 pub use seq::Seq;
 pub use text::Text;
 pub use whole::{MOST, ReadEnd, WriteFault, read_whole, write_whole};
+
+#[cfg(test)]
+mod tests;

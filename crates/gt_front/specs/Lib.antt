@@ -6,3 +6,5 @@ pub mod Causes
 pub mod Thin
 pub mod Recode
 pub mod Reads
+pub mod Asks
+pub mod Outcome

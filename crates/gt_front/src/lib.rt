@@ -6,10 +6,13 @@ mod answer;
 mod files;
 mod format_fault;
 mod note;
+mod recode;
+mod serve;
 mod thin;
 mod words;
 
 pub use answer::{Answer, Role};
 pub use format_fault::FormatFault;
 pub use note::note_text;
-pub use words::{Job, Need, WordName, usage, value_in};
+pub use serve::serve_words;
+pub use words::{Job, WordName};

@@ -1,6 +1,7 @@
-ghost use Rattle.std.specs.Prelude.{◌≡◌, ◌<◌, ◌≤◌, IsTrue, ◌↔◌, length, Some, None, IfSome, IfNone};
+ghost use Rattle.std.specs.Prelude.{◌≡◌, ◌<◌, ◌≤◌, IsTrue, ◌↔◌, length, Some, None, IfSome, IfNone, IfOk, IfErr, take, slice_index_or, [], false};
 ghost use Rattle.std.specs.Option.{option_map, option_copied};
-ghost use Rattle.gt_front.specs.Words.{job_named, name_named, need_of, value_fits, word_parts, value_of, may_follow, is_fine, is_short, Usage, WordsOk};
+ghost use Rattle.gt_front.specs.Words.{job_named, name_named, need_of, value_fits, word_parts, value_of, may_follow, is_fine, Usage, FineBelow};
+ghost use Rattle.gt_front.specs.Asks.{Asks};
 
 use gr_base::Text;
 
@@ -104,35 +105,44 @@ fn is_fine(earlier: &[Text], word: &str) -> bool
     }
 }
 
-/// Whether a name is missing that the job requires, or the job itself.
-fn is_short(words: &[Text]) -> bool
-    ensures { result ≡ is_short words.now }
-{
-    let [first, words @ ..] = words else {
-        return true;
-    };
-    let Some(job) = Job::named(first.as_str()) else {
-        return true;
-    };
-    let lacks = |name: WordName| {
-        job.need(name) == Need::Required && value_in(name, words).is_none()
-    };
-    lacks(WordName::In) || lacks(WordName::Out)
+/// The files that the words of `recode` name.
+#[derive(Clone, Copy, Debug)]
+pub struct RecodeWords<'a> {
+    pub input: &'a str,
+    pub output: &'a str,
 }
 
-/// The index of the first word that breaks the rules, or the number of words where only a required
-/// one is missing.
-pub fn usage(words: &[Text]) -> Option<u64>
-    ensures fault { IfSome result (Usage words.now) }
-    ensures none { IfNone result (WordsOk words.now) }
+/// The index of the first word that breaks the rules.
+fn first_bad(words: &[Text]) -> Option<usize>
+    ensures fault { IfSome result (λ index. FineBelow words.now index × (index < length words.now) × (is_fine (take index words.now) (slice_index_or words.now index []) ≡ false)) }
+    ensures none { IfNone result (FineBelow words.now (length words.now)) }
 {
     for (index, word) in words.iter().enumerate() {
         if !is_fine(&words[..index], word.as_str()) {
-            return Some(index as u64);
+            return Some(index);
         }
     }
-    if is_short(words) {
-        return Some(words.len() as u64);
-    }
     None
+}
+
+/// What the words ask for, or the index of the first one that breaks the rules, or the number of words
+/// where only a required one is missing.
+pub fn parse_words(words: &[Text]) -> Result<RecodeWords<'_>, u64>
+    ensures asked { IfOk result (Asks words.now) }
+    ensures usage { IfErr result (Usage words.now) }
+{
+    if let Some(index) = first_bad(words) {
+        return Err(index as u64);
+    }
+    let short = Err(words.len() as u64);
+    let [first, rest @ ..] = words else {
+        return short;
+    };
+    match Job::named(first.as_str()) {
+        Some(Job::Recode) => match (value_in(WordName::In, rest), value_in(WordName::Out, rest)) {
+            (Some(input), Some(output)) => Ok(RecodeWords { input, output }),
+            _ => short,
+        },
+        None => short,
+    }
 }

@@ -22,18 +22,18 @@ pub record Begins (value : ℕ) (bytes rest : List ℕ) : Type 0 where
 
 -- why no payload of the wire type begins the bytes
 pub data PayloadFails (wire : ℕ) (bytes : List ℕ) (reason : WireReason) : Type 0 where
-  varint : wire ≡ 0 → VarintFails bytes reason → PayloadFails wire bytes reason
-  eight : wire ≡ 1 → length bytes < 8 → reason ≡ Truncated → PayloadFails wire bytes reason
-  size : wire ≡ 2 → VarintFails bytes reason → PayloadFails wire bytes reason
-  content : wire ≡ 2 → (len : ℕ) (rest : List ℕ) → Begins len bytes rest → length rest < len → reason ≡ Truncated → PayloadFails wire bytes reason
-  four : wire ≡ 5 → length bytes < 4 → reason ≡ Truncated → PayloadFails wire bytes reason
+  bad_varint : wire ≡ 0 → VarintFails bytes reason → PayloadFails wire bytes reason
+  short_eight : wire ≡ 1 → length bytes < 8 → reason ≡ Truncated → PayloadFails wire bytes reason
+  bad_size : wire ≡ 2 → VarintFails bytes reason → PayloadFails wire bytes reason
+  short_run : wire ≡ 2 → (len : ℕ) (rest : List ℕ) → Begins len bytes rest → length rest < len → reason ≡ Truncated → PayloadFails wire bytes reason
+  short_four : wire ≡ 5 → length bytes < 4 → reason ≡ Truncated → PayloadFails wire bytes reason
 
 -- why no record begins the bytes: the key, the field number 0, the wire type or the payload, in this order
 pub data Fails (bytes : List ℕ) (reason : WireReason) : Type 0 where
-  key : VarintFails bytes reason → Fails bytes reason
-  field_zero : (wire : ℕ) (rest : List ℕ) → Begins wire bytes rest → wire < 8 → reason ≡ FieldZero → Fails bytes reason
-  wire_type : (field wire : ℕ) (rest : List ℕ) → Begins (8 * field + wire) bytes rest → 1 ≤ field → wire < 8 → ¬ IsTrue (is_wire wire) → reason ≡ WireType → Fails bytes reason
-  payload : (field wire : ℕ) (rest : List ℕ) → Begins (8 * field + wire) bytes rest → 1 ≤ field → PayloadFails wire rest reason → Fails bytes reason
+  bad_key : VarintFails bytes reason → Fails bytes reason
+  zero_field : (wire : ℕ) (rest : List ℕ) → Begins wire bytes rest → wire < 8 → reason ≡ FieldZero → Fails bytes reason
+  unknown_wire : (field wire : ℕ) (rest : List ℕ) → Begins (8 * field + wire) bytes rest → 1 ≤ field → wire < 8 → ¬ IsTrue (is_wire wire) → reason ≡ WireType → Fails bytes reason
+  bad_payload : (field wire : ℕ) (rest : List ℕ) → Begins (8 * field + wire) bytes rest → 1 ≤ field → PayloadFails wire rest reason → Fails bytes reason
 
 -- the bytes are whole records, and then others that no record begins, at the fault's place and for its reason
 pub record wire_fault (bytes : List ℕ) (base : ℕ) (fault : WireFault) : Type 0 where

@@ -4,7 +4,8 @@ ghost use Rattle.pb_wire.specs.declared.fault.WireFault.{WireFault};
 ghost use Rattle.pb_wire.specs.Records.{records, Takes, RunLies};
 ghost use Rattle.pb_wire.specs.Faults.{wire_fault};
 
-use crate::fault::{WireFault, WireReason};
+use crate::fault::WireFault;
+use crate::reading::read_record;
 use crate::records::Record;
 use std::marker::Model;
 
@@ -60,9 +61,19 @@ impl<'a> Cursor<'a> {
         ensures no_list { OnErr result ((list : List Record) → records self.old.bytes self.old.place list → ⊥) }
         ensures still { OnErr result (self.new ≡ self.old) }
     {
-        Err(WireFault {
-            place: self.place,
-            reason: WireReason::Varint,
-        })
+        if self.left.is_empty() {
+            return Ok(None);
+        }
+        match read_record(self.left, self.place) {
+            Ok((record, size)) => {
+                self.left = &self.left[size..];
+                self.place += size as u64;
+                Ok(Some(record))
+            }
+            Err(reason) => Err(WireFault {
+                place: self.place,
+                reason,
+            }),
+        }
     }
 }

@@ -6,9 +6,13 @@ mod cursor;
 mod fault;
 pub mod laws;
 mod put;
+mod reading;
 mod records;
 
 pub use cursor::Cursor;
 pub use fault::{WireFault, WireReason};
 pub use put::{put_bytes, put_key, put_varint};
 pub use records::{Load, Record, Span};
+
+#[cfg(test)]
+mod tests;

@@ -1,5 +1,5 @@
 use Rattle.gt_front.specs.Words.{FineBelow}
-use Rattle.gt_front.proofs.words.usage.Given as goal
+use Rattle.gt_front.proofs.words.first_bad.Given as goal
 
 -- the words so far keep the rules
 abbrev pub invariant-loop-index : goal.invariant-loop-index

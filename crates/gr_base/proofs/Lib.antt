@@ -1,0 +1,4 @@
+pub mod Appending
+pub mod Holding
+pub mod Reading
+pub mod Telling

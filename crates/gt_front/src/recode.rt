@@ -1,0 +1,72 @@
+ghost use Rattle.std.specs.Prelude.{◌≡◌, ◌≢◌, ◌⊎◌, ◌≤◌, ◌^◌, ◌∷◌, ◌++◌, [], ℕ, length, IfOk, IfErr, codes};
+ghost use Rattle.gr_base.specs.Desk.{ToldBoth};
+ghost use Rattle.gt_front.specs.declared.answer.Answer.TheVariants as answers;
+ghost use Rattle.gt_front.specs.declared.answer.Role.TheVariants as roles;
+ghost use Rattle.gt_front.specs.Causes.{ReadFaultCause, TooLargeCause, WriteFaultCause, IsOwn, Kept};
+ghost use Rattle.std.specs.Fmt.{decimal};
+ghost use Rattle.gt_front.specs.Thin.{thin_spelling};
+ghost use Rattle.gt_front.specs.Recode.{RecodeGives, RecodeOf, done_text};
+
+use crate::answer::{Answer, Role};
+use crate::files::{Finished, read_input, write_output};
+use crate::format_fault::FormatFault;
+use crate::thin::{read_thin, write_thin};
+use gr_base::{Desk, Text};
+use std::alloc::{AllocError, Global};
+
+/// What `recode` makes of the bytes of its input.
+fn recoded(alloc: Global, bytes: &[u8]) -> Result<Finished, Answer>
+    requires { length bytes.now ≤ 2 ^ 26 }
+    ensures done { IfOk result (λ made. RecodeGives bytes.now (answers.Done made.text) made.out) }
+    ensures refused { IfErr result (λ answer. (answer ≡ answers.Memory) ⊎ RecodeGives bytes.now answer []) }
+{
+    let Some(file) = read_thin(bytes) else {
+        return Err(Answer::NotYet);
+    };
+    if file.prefix != file.version {
+        let fault = FormatFault::Version(file.prefix, file.version as u32);
+        return Err(Answer::Format(fault));
+    }
+    match spelled(alloc, file.uuid, file.version) {
+        Ok(finished) => Ok(finished),
+        Err(AllocError) => Err(Answer::Memory),
+    }
+}
+
+/// The canonical file of an identifier and a version, and the text that says how long it is.
+fn spelled(alloc: Global, uuid: &[u8], version: u8) -> Result<Finished, AllocError>
+    requires { length uuid.now ≡ 16 }
+    ensures out { IfOk result (λ made. made.out ≡ thin_spelling uuid.now version) }
+    ensures text { IfOk result (λ made. made.text ≡ done_text made.out) }
+{
+    let out = write_thin(alloc, uuid, version)?;
+    let text = bytes_text(alloc, out.len())?;
+    Ok(Finished { text, out })
+}
+
+/// The text of a job that wrote so many bytes.
+fn bytes_text(alloc: Global, count: usize) -> Result<Text, AllocError>
+    ensures { IfOk result (λ text. text ≡ codes "done bytes=" ++ decimal count) }
+{
+    let text = format!(in alloc; "done bytes={count}")?;
+    Ok(Text::from_string(text))
+}
+
+/// Reads the file of one name and writes it canonically under another.
+pub fn recode<D: Desk>(alloc: Global, desk: &mut D, input: &str, output: &str) -> Answer
+    ensures served { (index : ℕ) → result ≢ answers.Usage index }
+    ensures read_fault { ReadFaultCause ((roles.In, input.now) ∷ []) (D.files desk.old) (D.steady desk.old) (D.read_faults desk.old) (D.read_faults desk.new) result }
+    ensures too_large { TooLargeCause ((roles.In, input.now) ∷ []) (D.files desk.old) (D.steady desk.old) (D.taken desk.old) (D.taken desk.new) result }
+    ensures write_fault { WriteFaultCause (RecodeOf input.now) (D.files desk.old) (D.steady desk.old) (D.write_faults desk.old) (D.write_faults desk.new) result }
+    ensures own { IsOwn (RecodeOf input.now) (D.files desk.old) result }
+    ensures kept { ToldBoth (D.files desk.old) (D.files desk.new) (Kept (RecodeOf input.now) output.now result) }
+{
+    let bytes = match read_input(alloc, desk, Role::In, input) {
+        Ok(bytes) => bytes,
+        Err(answer) => return answer,
+    };
+    match recoded(alloc, bytes.as_slice()) {
+        Ok(finished) => write_output(desk, output, finished),
+        Err(answer) => answer,
+    }
+}

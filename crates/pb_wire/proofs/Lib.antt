@@ -1,0 +1,6 @@
+pub mod Varints
+pub mod Front
+pub mod Lists
+pub mod Loop
+pub mod Steps
+pub mod Shortest
