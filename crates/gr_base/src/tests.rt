@@ -1,5 +1,5 @@
 use super::*;
-use std::alloc::Global;
+use std::alloc::{AllocError, Global};
 use std::fs;
 use std::process::Abort;
 use std::test::Fail;
@@ -14,22 +14,40 @@ fn holds(found: Option<&[u8]>, bytes: &[u8]) -> bool {
     }
 }
 
-#[test]
-fn an_honest_desk_reads_and_writes_whole_files(rt: HostRuntime) -> Result<(), Fail> {
-    let alloc = rt.alloc();
+fn reads<D: Desk>(alloc: Global, desk: &mut D, name: &str, bytes: &[u8]) -> bool {
+    match read_whole(alloc, desk, name) {
+        Ok(read) => read.as_slice() == bytes,
+        Err(_) => false,
+    }
+}
+
+fn is_refused<D: Desk>(alloc: Global, desk: &mut D, name: &str) -> bool {
+    let read = read_whole(alloc, desk, name);
+    matches!(read, Err(End::Fault(ReadEnd::Fault)))
+}
+
+fn writes<D: Desk>(desk: &mut D, name: &str, bytes: &[u8]) -> bool {
+    write_whole(desk, name, bytes).is_ok()
+}
+
+// An honest desk with two files, one of them put twice.
+fn filled_desk(alloc: Global) -> Result<HonestDesk, AllocError> {
     let mut desk = HonestDesk::new(alloc)?;
     desk.put("in", BYTES)?;
     desk.put("empty", b"old")?;
     desk.put("empty", b"")?;
+    Ok(desk)
+}
 
-    let read = read_whole(alloc, &mut desk, "in")?;
-    assert_eq!(rt; read.as_slice(), BYTES);
-    let nothing = read_whole(alloc, &mut desk, "empty")?;
-    assert!(rt; nothing.is_empty());
-    let missing = read_whole(alloc, &mut desk, "out");
-    assert!(rt; matches!(missing, Err(End::Fault(ReadEnd::Fault))));
+#[test]
+fn an_honest_desk_reads_and_writes_whole_files(rt: HostRuntime) -> Result<(), Fail> {
+    let alloc = rt.alloc();
+    let mut desk = filled_desk(alloc)?;
+    assert!(rt; reads(alloc, &mut desk, "in", BYTES));
+    assert!(rt; reads(alloc, &mut desk, "empty", b""));
+    assert!(rt; is_refused(alloc, &mut desk, "out"));
 
-    write_whole(&mut desk, "out", BYTES)?;
+    assert!(rt; writes(&mut desk, "out", BYTES));
     assert!(rt; holds(desk.get("out"), BYTES));
     assert!(rt; holds(desk.get("in"), BYTES));
     assert!(rt; desk.get("other").is_none());
@@ -87,10 +105,8 @@ const CASES: [Case; 6] = [
 fn check_case(rt: &impl Abort, alloc: Global, case: &Case) -> Result<(), Fail> {
     let mut desk = MemDesk::new(alloc, 16, &[case.refused])?;
     desk.put("in", BYTES)?;
-    let read = read_whole(alloc, &mut desk, "in");
-    assert_eq!(rt; read.is_ok(), case.is_read);
-    let written = write_whole(&mut desk, "out", BYTES);
-    assert_eq!(rt; written.is_ok(), case.is_written);
+    assert_eq!(rt; reads(alloc, &mut desk, "in", BYTES), case.is_read);
+    assert_eq!(rt; writes(&mut desk, "out", BYTES), case.is_written);
     assert_eq!(rt; desk.get("out").map(|held| held.len()), case.held);
     Ok(())
 }
@@ -107,22 +123,16 @@ fn a_refused_call_ends_a_read_or_a_write(rt: HostRuntime) -> Result<(), Fail> {
 fn real_files_are_read_and_written(rt: HostRuntime) -> Result<(), Fail> {
     let alloc = rt.alloc();
     let mut desk = RealDesk::new(alloc, &rt);
-    write_whole(&mut desk, "real_desk.bin", BYTES)?;
-    let first = read_whole(alloc, &mut desk, "real_desk.bin")?;
-    assert_eq!(rt; first.as_slice(), BYTES);
-
+    assert!(rt; writes(&mut desk, "real_desk.bin", BYTES));
+    assert!(rt; reads(alloc, &mut desk, "real_desk.bin", BYTES));
     // A read from the start sees what was written since.
-    write_whole(&mut desk, "real_desk.bin", &BYTES[..7])?;
-    let second = read_whole(alloc, &mut desk, "real_desk.bin")?;
-    assert_eq!(rt; second.as_slice(), &BYTES[..7]);
+    assert!(rt; writes(&mut desk, "real_desk.bin", b"short"));
+    assert!(rt; reads(alloc, &mut desk, "real_desk.bin", b"short"));
     fs::remove_file(&rt, "real_desk.bin")?;
 
-    let missing = read_whole(alloc, &mut desk, "real_desk.bin");
-    assert!(rt; matches!(missing, Err(End::Fault(ReadEnd::Fault))));
-    let folder = read_whole(alloc, &mut desk, ".");
-    assert!(rt; matches!(folder, Err(End::Fault(ReadEnd::Fault))));
-    let full = write_whole(&mut desk, "/dev/full", BYTES);
-    assert!(rt; matches!(full, Err(End::Fault(WriteFault))));
+    assert!(rt; is_refused(alloc, &mut desk, "real_desk.bin"));
+    assert!(rt; is_refused(alloc, &mut desk, "."));
+    assert!(rt; !writes(&mut desk, "/dev/full", BYTES));
     Ok(())
 }
 

@@ -16,3 +16,6 @@ pub use format_fault::FormatFault;
 pub use note::note_text;
 pub use serve::serve_words;
 pub use words::{Job, WordName};
+
+#[cfg(test)]
+mod tests;

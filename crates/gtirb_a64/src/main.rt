@@ -15,7 +15,7 @@ use std::rt::Env;
 /// The words behind the program's own name. Arguments that aren't text can't be words.
 fn command_words(rt: &(impl Env + AllocGlobal)) -> Result<Seq<Text>, Answer> {
     match env::args(rt) {
-        Ok(arguments) => texts(rt, arguments).map_err(|AllocError| Answer::Memory),
+        Ok(arguments) => texts(rt, arguments).map_err(|_| Answer::Memory),
         Err(error) if error.kind() == ErrorKind::OutOfMemory => Err(Answer::Memory),
         Err(_) => Err(Answer::Usage(0)),
     }
