@@ -1,9 +1,9 @@
 -- When each answer comes, from what the reads and the write of a job said.
-use Rattle.std.proofs.Common.{◌≡◌, ◌⊎◌, List, [], ◌∷◌, ◌++◌, ℕ, ◌≤◌, ◌^◌, Bool, IsTrue, length, Option, None, Some, refl, inl, inr, sym, ◌∙◌, ap, subst, arith}
+use Rattle.std.proofs.Common.{◌+◌, ◌<◌, ◌≡◌, ◌⊎◌, List, [], ◌∷◌, ◌++◌, ℕ, ◌≤◌, ◌^◌, Bool, IsTrue, length, Option, None, Some, refl, inl, inr, sym, ◌∙◌, ap, subst, arith}
 use Rattle.gr_base.specs.Desk.{Files, Told, ToldBoth, SameFiles, Leaves, LeavesPart, Rose, Took}
 use Rattle.gt_front.specs.declared.answer.Role.{Role}
 use Rattle.gt_front.specs.declared.answer.Answer.{Answer}
-use Rattle.gt_front.specs.declared.answer.Answer.TheVariants.{Done, Usage, ReadFault, WriteFault, Memory, TooLarge, Format, NotYet}
+use Rattle.gt_front.specs.declared.answer.Answer.TheVariants.{Done, Usage, ReadFault, WriteFault, Memory, TooLarge, Format, NotYet, Image}
 use Rattle.gt_front.specs.Inputs.{InputFile, IsReadable, IsTooLarge, AllReadable, Reaches, Names}
 use Rattle.gt_front.specs.Causes.{ReadFaultCause, TooLargeCause, WriteFaultCause, IsOwn, Kept, Outcomes, Settles, TellsTruth}
 use Rattle.gt_front.specs.Reads.{Counts, Refuses, Writes}
@@ -29,6 +29,7 @@ NotRefused WriteFault = Unit {0}
 NotRefused Memory = Unit {0}
 NotRefused (Format fault) = Unit {0}
 NotRefused NotYet = Unit {0}
+NotRefused (Image fault) = Unit {0}
 
 -- an input that can't be read isn't reached where all can be read
 pub none_bad : (inputs : List InputFile) (held : Files) (role : Role) (name : List ℕ) → AllReadable inputs held
@@ -86,6 +87,13 @@ both_after (Some a) None n P Q R f h k = absurd h
 both_after (Some a) (Some b) None P Q R f h k = absurd k
 both_after (Some a) (Some b) (Some c) P Q R f h k = f a b c h k
 
+-- a fact about the files around a call, from another
+pub both_weaken : (o n : Option Files) (Q R : Files → Files → Type 0) → ((a c : Files) → Q a c → R a c) → ToldBoth o n Q → ToldBoth o n R
+both_weaken None None Q R f k = tt
+both_weaken None (Some c) Q R f k = absurd k
+both_weaken (Some a) None Q R f k = absurd k
+both_weaken (Some a) (Some c) Q R f k = f a c k
+
 -- a fact about the files around a call, from one about the files before it
 pub both_map : (o n : Option Files) (P : Files → Type 0) (Q R : Files → Files → Type 0) → ((a c : Files) → P a → Q a c → R a c)
     → Told o P → ToldBoth o n Q → ToldBoth o n R
@@ -107,6 +115,7 @@ module _ (own : Outcomes) (one : (held : Files) (a b : Answer) (out1 out2 : List
     finished_not_refused name steady before now old new (TooLarge r) w = w
     finished_not_refused name steady before now old new (Format f) w = tt
     finished_not_refused name steady before now old new NotYet w = tt
+    finished_not_refused name steady before now old new (Image f) w = tt
 
     pub finished_write_fault : (name : List ℕ) (steady mid_steady : Bool) (before mid now : ℕ) (old new : Option Files) (answer : Answer)
         → mid_steady ≡ steady → before ≤ mid → Writes name text out mid_steady mid now old new answer
@@ -125,6 +134,7 @@ module _ (own : Outcomes) (one : (held : Files) (a b : Answer) (out1 out2 : List
     finished_write_fault name steady mid_steady before mid now old new (TooLarge r) es h w = absurd w
     finished_write_fault name steady mid_steady before mid now old new (Format f) es h w = absurd w
     finished_write_fault name steady mid_steady before mid now old new NotYet es h w = absurd w
+    finished_write_fault name steady mid_steady before mid now old new (Image f) es h w = absurd w
 
     pub finished_own : (name : List ℕ) (steady : Bool) (before now : ℕ) (old new : Option Files) (answer : Answer)
         → Writes name text out steady before now old new answer → IsOwn own files answer
@@ -145,6 +155,7 @@ module _ (own : Outcomes) (one : (held : Files) (a b : Answer) (out1 out2 : List
     finished_own name steady before now old new (TooLarge r) w = absurd w
     finished_own name steady before now old new (Format f) w = absurd w
     finished_own name steady before now old new NotYet w = absurd w
+    finished_own name steady before now old new (Image f) w = absurd w
 
     pub finished_kept : (name : List ℕ) (steady : Bool) (before now : ℕ) (mid new : Option Files) (answer : Answer)
         → ToldBoth files mid SameFiles → Writes name text out steady before now mid new answer → ToldBoth files new (Kept own name answer)
@@ -162,6 +173,7 @@ module _ (own : Outcomes) (one : (held : Files) (a b : Answer) (out1 out2 : List
     finished_kept name steady before now mid new (TooLarge r) same w = absurd w
     finished_kept name steady before now mid new (Format f) same w = absurd w
     finished_kept name steady before now mid new NotYet same w = absurd w
+    finished_kept name steady before now mid new (Image f) same w = absurd w
 
 -- the input at which reading stopped is the first one that can't be read
 module _ (inputs before after : List InputFile) (role : Role) (name : List ℕ) (listed : inputs ≡ before ++ (role, name) ∷ after) (files : Option Files) (steady : Bool) where
@@ -219,6 +231,7 @@ module _ (inputs before after : List InputFile) (role : Role) (name : List ℕ) 
   refused_read_fault counts WriteFault all w = absurd w
   refused_read_fault counts (Format f) all w = absurd w
   refused_read_fault counts NotYet all w = absurd w
+  refused_read_fault counts (Image f) all w = absurd w
 
   pub refused_too_large : (counts : Counts) (answer : Answer) → Told files (AllReadable before) → Refuses role name files steady counts answer
       → TooLargeCause inputs files steady counts.taken_before counts.taken_now answer
@@ -252,10 +265,7 @@ module _ (inputs before after : List InputFile) (role : Role) (name : List ℕ) 
   refused_too_large counts WriteFault all w = absurd w
   refused_too_large counts (Format f) all w = absurd w
   refused_too_large counts NotYet all w = absurd w
-
--- an answer that a job gives of the bytes that it read, or want of memory
-abbrev pub Gave : Outcomes → Option Files → Answer → Type 0
-Gave own files answer = (answer ≡ Memory) ⊎ Told files (λ held. (out : List ℕ) × own held answer out)
+  refused_too_large counts (Image f) all w = absurd w
 
 -- a fact about any files, where they are told
 pub told_always : (files : Option Files) (P : Files → Type 0) → ((held : Files) → P held) → Told files P
@@ -266,3 +276,64 @@ told_always (Some held) P f = f held
 pub told_readable : (files : Option Files) (role : Role) (name bytes : List ℕ) → Told files (λ held. held name ≡ Some bytes)
     → length bytes ≤ 2 ^ 26 → Told files (AllReadable ((role, name) ∷ []))
 told_readable files role name bytes here short = told_map files _ _ (λ held e. ((bytes, e, short), tt)) here
+
+-- each of two inputs that were read can be read
+pub told_readable2 : (files : Option Files) (r1 r2 : Role) (n1 n2 b1 b2 : List ℕ) → Told files (λ held. held n1 ≡ Some b1) → length b1 ≤ 2 ^ 26
+    → Told files (λ held. held n2 ≡ Some b2) → length b2 ≤ 2 ^ 26 → Told files (AllReadable ((r1, n1) ∷ (r2, n2) ∷ []))
+told_readable2 files r1 r2 n1 n2 b1 b2 here1 short1 here2 short2 =
+    told_map2 files _ _ _ (λ held e1 e2. ((b1, e1, short1), ((b2, e2, short2), tt))) here1 here2
+
+-- files that stayed over two calls
+pub same_both : (o m n : Option Files) → ToldBoth o m SameFiles → ToldBoth m n SameFiles → ToldBoth o n SameFiles
+same_both o m n = both_after o m n _ _ _ (λ a b c f g other. g other ∙ f other)
+
+-- what holds of a file after a call that left the files held before it
+pub told_back : (o m : Option Files) (name : List ℕ) (P : Option (List ℕ) → Type 0) → ToldBoth o m SameFiles
+    → Told m (λ held. P (held name)) → Told o (λ held. P (held name))
+told_back None None name P same h = tt
+told_back None (Some c) name P same h = absurd same
+told_back (Some a) None name P same h = absurd same
+told_back (Some a) (Some c) name P same h = subst P (same name) h
+
+took_later : (count before mid now : ℕ) → before ≤ mid → Took count mid now → Took count before now
+took_later count before mid now h t = omega arith
+
+-- a refused read after another one that left the files, told of both
+pub refused_back : (o m : Option Files) (role : Role) (name : List ℕ) (steady mid : Bool) (c d : Counts) (answer : Answer)
+    → ToldBoth o m SameFiles → mid ≡ steady → c.read_before ≤ d.read_before → d.read_now ≡ c.read_now
+    → c.taken_before ≤ d.taken_before → d.taken_now ≡ c.taken_now → Refuses role name m mid d answer → Refuses role name o steady c answer
+refused_back o m role name steady mid c d Memory same es h e f g w = tt
+refused_back o m role name steady mid c d (ReadFault given) same es h e f g w = (
+  w.0,
+  subst (λ (x : ℕ). Rose c.read_before x) e (rose_later c.read_before d.read_before d.read_now h w.1),
+  λ sure. told_back o m name (λ x. x ≡ None) same (w.2 (subst IsTrue (sym es) sure)),
+)
+refused_back o m role name steady mid c d (TooLarge given) same es h e f g w = (
+  w.0,
+  subst (λ (x : ℕ). Took (2 ^ 26 + 1) c.taken_before x) g (took_later (2 ^ 26 + 1) c.taken_before d.taken_before d.taken_now f w.1),
+  told_back o m name (λ x. (bytes : List ℕ) × (x ≡ Some bytes) × (2 ^ 26 < length bytes)) same w.2,
+)
+refused_back o m role name steady mid c d (Done t) same es h e f g w = absurd w
+refused_back o m role name steady mid c d (Usage i) same es h e f g w = absurd w
+refused_back o m role name steady mid c d WriteFault same es h e f g w = absurd w
+refused_back o m role name steady mid c d (Format x) same es h e f g w = absurd w
+refused_back o m role name steady mid c d NotYet same es h e f g w = absurd w
+refused_back o m role name steady mid c d (Image x) same es h e f g w = absurd w
+
+-- where a job gave an answer of the bytes that it read, or want of memory, it is the job's own
+pub gave_own : (own : Outcomes) (one : (held : Files) (a b : Answer) (out1 out2 : List ℕ) → own held a out1 → own held b out2 → a ≡ b)
+    (files : Option Files) (answer : Answer) → (answer ≡ WriteFault → ⊥) → (answer ≡ Memory) ⊎ Told files (λ held. own held answer []) → IsOwn own files answer
+gave_own own one files Memory quiet h = record { truth = told_always files _ (λ held. tt); settles = told_always files _ (λ held a o x. tt) }
+gave_own own one files WriteFault quiet h = absurd (quiet refl)
+gave_own own one files (ReadFault r) quiet h = record { truth = told_always files _ (λ held. tt); settles = told_always files _ (λ held a o x. tt) }
+gave_own own one files (TooLarge r) quiet h = record { truth = told_always files _ (λ held. tt); settles = told_always files _ (λ held a o x. tt) }
+gave_own own one files (Done t) quiet (inl e) = cc
+gave_own own one files (Done t) quiet (inr x) = record { truth = told_map files _ _ (λ held y. ([], y)) x; settles = told_map files _ _ (λ held y a o z. one held a (Done t) o [] z y) x }
+gave_own own one files (Usage i) quiet (inl e) = cc
+gave_own own one files (Usage i) quiet (inr x) = record { truth = told_map files _ _ (λ held y. tt) x; settles = told_map files _ _ (λ held y a o z. one held a (Usage i) o [] z y) x }
+gave_own own one files (Format f) quiet (inl e) = cc
+gave_own own one files (Format f) quiet (inr x) = record { truth = told_map files _ _ (λ held y. ([], y)) x; settles = told_map files _ _ (λ held y a o z. one held a (Format f) o [] z y) x }
+gave_own own one files NotYet quiet (inl e) = cc
+gave_own own one files NotYet quiet (inr x) = record { truth = told_map files _ _ (λ held y. ([], y)) x; settles = told_map files _ _ (λ held y a o z. one held a NotYet o [] z y) x }
+gave_own own one files (Image f) quiet (inl e) = cc
+gave_own own one files (Image f) quiet (inr x) = record { truth = told_map files _ _ (λ held y. ([], y)) x; settles = told_map files _ _ (λ held y a o z. one held a (Image f) o [] z y) x }

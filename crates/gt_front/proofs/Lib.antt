@@ -5,3 +5,5 @@ pub mod RecodeLaws
 pub mod Complete
 pub mod Served
 pub mod ThinSpelling
+pub mod RunLaws
+pub mod Numbers

@@ -2,13 +2,13 @@
 use Rattle.std.proofs.Common.{◌≡◌, ◌≢◌, ◌⊎◌, List, [], ℕ, Option, Some, refl, inl, inr, sym, ◌∙◌, ap, subst}
 use Rattle.gr_base.specs.Desk.{Files, Told}
 use Rattle.gt_front.specs.declared.answer.Answer.{Answer}
-use Rattle.gt_front.specs.declared.answer.Answer.TheVariants.{Done, Usage, ReadFault, WriteFault, Memory, TooLarge, Format, NotYet}
+use Rattle.gt_front.specs.declared.answer.Answer.TheVariants.{Done, Usage, ReadFault, WriteFault, Memory, TooLarge, Format, NotYet, Image}
 use Rattle.gt_front.specs.declared.format_fault.FormatFault.{FormatFault}
 use Rattle.gt_front.specs.declared.format_fault.FormatFault.TheVariants.{Version}
 use Rattle.gt_front.specs.Thin.{Thin, thin_spelling}
 use Rattle.gt_front.specs.Recode.{RecodeGives, RecodeOf, done_text}
 use Rattle.gt_front.specs.Causes.{IsOwn}
-use Rattle.gt_front.proofs.Ends.{told_map, NotRefused}
+use Rattle.gt_front.proofs.Ends.{told_map, gave_own, NotRefused}
 use Rattle.gt_front.proofs.ThinLaws.{one_uuid, one_byte, one_version}
 
 one_gives : (bytes : List ℕ) (a b : Answer) (o p : List ℕ) → RecodeGives bytes a o → RecodeGives bytes b p → a ≡ b
@@ -44,21 +44,25 @@ one_gives bytes (ReadFault r) b o p x y = absurd x
 one_gives bytes WriteFault b o p x y = absurd x
 one_gives bytes Memory b o p x y = absurd x
 one_gives bytes (TooLarge r) b o p x y = absurd x
+one_gives bytes (Image f) b o p x y = absurd x
 one_gives bytes (Done s) (Usage i) o p x y = absurd y
 one_gives bytes (Done s) (ReadFault r) o p x y = absurd y
 one_gives bytes (Done s) WriteFault o p x y = absurd y
 one_gives bytes (Done s) Memory o p x y = absurd y
 one_gives bytes (Done s) (TooLarge r) o p x y = absurd y
+one_gives bytes (Done s) (Image f) o p x y = absurd y
 one_gives bytes (Format (Version byte field)) (Usage i) o p x y = absurd y
 one_gives bytes (Format (Version byte field)) (ReadFault r) o p x y = absurd y
 one_gives bytes (Format (Version byte field)) WriteFault o p x y = absurd y
 one_gives bytes (Format (Version byte field)) Memory o p x y = absurd y
 one_gives bytes (Format (Version byte field)) (TooLarge r) o p x y = absurd y
+one_gives bytes (Format (Version byte field)) (Image f) o p x y = absurd y
 one_gives bytes NotYet (Usage i) o p x y = absurd y
 one_gives bytes NotYet (ReadFault r) o p x y = absurd y
 one_gives bytes NotYet WriteFault o p x y = absurd y
 one_gives bytes NotYet Memory o p x y = absurd y
 one_gives bytes NotYet (TooLarge r) o p x y = absurd y
+one_gives bytes NotYet (Image f) o p x y = absurd y
 
 -- over some files `recode` has one answer
 pub one_recode : (name : List ℕ) (held : Files) (a b : Answer) (o p : List ℕ) → RecodeOf name held a o → RecodeOf name held b p → a ≡ b
@@ -74,6 +78,11 @@ pub recode_of : (files : Option Files) (name bytes seen : List ℕ) (answer : An
 recode_of files name bytes seen answer out here same gives =
     told_map files _ _ (λ held e. record { bytes = bytes; held = e; gives = subst (λ (bs : List ℕ). RecodeGives bs answer out) same gives }) here
 
+-- a refusal isn't that of a write
+refusal_quiet : (bytes : List ℕ) (answer : Answer) (out : List ℕ) → (answer ≡ Memory) ⊎ RecodeGives bytes answer out → answer ≡ WriteFault → ⊥
+refusal_quiet bytes answer out (inl e) f = cc
+refusal_quiet bytes answer out (inr x) f = subst (λ (a : Answer). RecodeGives bytes a out) f x
+
 -- an answer that it gives for bytes isn't that of a refused read
 pub refusal_plain : (bytes : List ℕ) (answer : Answer) (out : List ℕ) → (answer ≡ Memory) ⊎ RecodeGives bytes answer out → NotRefused answer
 refusal_plain bytes (ReadFault r) out (inl e) = cc
@@ -86,40 +95,11 @@ refusal_plain bytes WriteFault out h = tt
 refusal_plain bytes Memory out h = tt
 refusal_plain bytes (Format f) out h = tt
 refusal_plain bytes NotYet out h = tt
+refusal_plain bytes (Image f) out h = tt
 
 -- a refusal of the bytes of a file is the job's own
 pub refusal_own : (files : Option Files) (name bytes seen : List ℕ) (answer : Answer) → Told files (λ held. held name ≡ Some bytes)
     → seen ≡ bytes → (answer ≡ Memory) ⊎ RecodeGives seen answer [] → IsOwn (RecodeOf name) files answer
-refusal_own files name bytes seen Memory here same h = record {
-  truth = told_map files _ _ (λ held e. tt) here;
-  settles = told_map files _ _ (λ held e a o x. tt) here;
-}
-refusal_own files name bytes seen NotYet here same (inl e) = cc
-refusal_own files name bytes seen NotYet here same (inr x) =
-    let all = recode_of files name bytes seen NotYet [] here same x in
-    record {
-      truth = told_map files _ _ (λ held r. ([], r)) all;
-      settles = told_map files _ _ (λ held r a o y. one_recode name held a NotYet o [] y r) all;
-    }
-refusal_own files name bytes seen (Format f) here same (inl e) = cc
-refusal_own files name bytes seen (Format f) here same (inr x) =
-    let all = recode_of files name bytes seen (Format f) [] here same x in
-    record {
-      truth = told_map files _ _ (λ held r. ([], r)) all;
-      settles = told_map files _ _ (λ held r a o y. one_recode name held a (Format f) o [] y r) all;
-    }
-refusal_own files name bytes seen (Done t) here same (inl e) = cc
-refusal_own files name bytes seen (Done t) here same (inr x) =
-    let all = recode_of files name bytes seen (Done t) [] here same x in
-    record {
-      truth = told_map files _ _ (λ held r. ([], r)) all;
-      settles = told_map files _ _ (λ held r a o y. one_recode name held a (Done t) o [] y r) all;
-    }
-refusal_own files name bytes seen (Usage i) here same (inl e) = cc
-refusal_own files name bytes seen (Usage i) here same (inr x) = absurd x
-refusal_own files name bytes seen (ReadFault r) here same (inl e) = cc
-refusal_own files name bytes seen (ReadFault r) here same (inr x) = absurd x
-refusal_own files name bytes seen (TooLarge r) here same (inl e) = cc
-refusal_own files name bytes seen (TooLarge r) here same (inr x) = absurd x
-refusal_own files name bytes seen WriteFault here same (inl e) = cc
-refusal_own files name bytes seen WriteFault here same (inr x) = absurd x
+refusal_own files name bytes seen answer here same h =
+    gave_own (RecodeOf name) (one_recode name) files answer (λ e. refusal_quiet seen answer [] h e)
+    (elim h [ inl e ↦ inl e | inr x ↦ inr (recode_of files name bytes seen answer [] here same x) ])

@@ -8,3 +8,4 @@ pub mod Recode
 pub mod Reads
 pub mod Asks
 pub mod Outcome
+pub mod Run

@@ -2,7 +2,7 @@
 use Rattle.std.specs.Prelude.{ℕ, List, ◌++◌, codes}
 use Rattle.std.specs.Fmt.{decimal}
 use Rattle.gt_front.specs.declared.answer.Answer.{Answer}
-use Rattle.gt_front.specs.declared.answer.Answer.TheVariants.{Done, Usage, ReadFault, WriteFault, Memory, TooLarge, Format, NotYet}
+use Rattle.gt_front.specs.declared.answer.Answer.TheVariants.{Done, Usage, ReadFault, WriteFault, Memory, TooLarge, Format, NotYet, Image}
 use Rattle.gt_front.specs.declared.answer.Role.{Role}
 use Rattle.gt_front.specs.declared.answer.Role.TheVariants.{In, Patch, Layout, Input}
 use Rattle.gt_front.specs.declared.format_fault.FormatFault.{FormatFault}
@@ -29,3 +29,4 @@ note Memory = codes "memory"
 note (TooLarge role) = codes "too large: " ++ role_name role
 note (Format fault) = codes "format: " ++ format_note fault
 note NotYet = codes "not yet"
+note (Image fault) = codes "image at " ++ decimal fault.place

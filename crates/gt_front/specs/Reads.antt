@@ -3,7 +3,7 @@ use Rattle.std.specs.Prelude.{◌≡◌, ◌⊎◌, ◌≤◌, ℕ, ◌+◌, ◌
 use Rattle.gr_base.specs.Desk.{Files, Told, ToldBoth, SameFiles, Leaves, LeavesPart, Rose, Took}
 use Rattle.gt_front.specs.declared.answer.Role.{Role}
 use Rattle.gt_front.specs.declared.answer.Answer.{Answer}
-use Rattle.gt_front.specs.declared.answer.Answer.TheVariants.{Done, Usage, ReadFault, WriteFault, Memory, TooLarge, Format, NotYet}
+use Rattle.gt_front.specs.declared.answer.Answer.TheVariants.{Done, Usage, ReadFault, WriteFault, Memory, TooLarge, Format, NotYet, Image}
 use Rattle.gt_front.specs.Inputs.{IsTooLarge}
 
 -- the counts of a desk around a call
@@ -25,6 +25,7 @@ Refuses role name files steady counts (Usage index) = ⊥
 Refuses role name files steady counts WriteFault = ⊥
 Refuses role name files steady counts (Format fault) = ⊥
 Refuses role name files steady counts NotYet = ⊥
+Refuses role name files steady counts (Image fault) = ⊥
 
 -- how a finished job's write ends
 abbrev pub Writes : List ℕ → List ℕ → List ℕ → Bool → ℕ → ℕ → Option Files → Option Files → Answer → Type 0
@@ -37,3 +38,4 @@ Writes name text out steady before now old new (ReadFault role) = ⊥
 Writes name text out steady before now old new (TooLarge role) = ⊥
 Writes name text out steady before now old new (Format fault) = ⊥
 Writes name text out steady before now old new NotYet = ⊥
+Writes name text out steady before now old new (Image fault) = ⊥

@@ -3,7 +3,7 @@ use Rattle.std.specs.Prelude.{◌≡◌, ◌≢◌, ℕ, List, [], ◌++◌, len
 use Rattle.std.specs.Fmt.{decimal}
 use Rattle.gr_base.specs.Desk.{Files}
 use Rattle.gt_front.specs.declared.answer.Answer.{Answer}
-use Rattle.gt_front.specs.declared.answer.Answer.TheVariants.{Done, Usage, ReadFault, WriteFault, Memory, TooLarge, Format, NotYet}
+use Rattle.gt_front.specs.declared.answer.Answer.TheVariants.{Done, Usage, ReadFault, WriteFault, Memory, TooLarge, Format, NotYet, Image}
 use Rattle.gt_front.specs.declared.format_fault.FormatFault.TheVariants.{Version}
 use Rattle.gt_front.specs.Thin.{Thin, thin_spelling}
 
@@ -23,6 +23,7 @@ RecodeGives bytes (ReadFault role) out = ⊥
 RecodeGives bytes WriteFault out = ⊥
 RecodeGives bytes Memory out = ⊥
 RecodeGives bytes (TooLarge role) out = ⊥
+RecodeGives bytes (Image fault) out = ⊥
 
 -- what `recode` of the file of this name answers and writes
 pub record RecodeOf (name : List ℕ) (files : Files) (answer : Answer) (out : List ℕ) : Type 0 where

@@ -1,38 +1,71 @@
 -- The words of the command line: a job, and then words NAME=VALUE, each name at most once.
-use Rattle.std.specs.Prelude.{◌≡◌, ◌<◌, ℕ, zero, suc, ◌+◌, ◌⊎◌, Bool, true, false, not, ◌&&◌, ◌==◌, nat_lt, nat_le, IsTrue, List, [], ◌∷◌, ◌++◌, length, take, drop, slice_index_or, Option, Some, None, is_some, is_none, ◌||◌, if◌then◌else◌, codes}
-use Rattle.std.specs.List.{position_or_len, before_first, after_first, list_all}
+use Rattle.std.specs.Prelude.{◌≡◌, ◌<◌, ℕ, zero, suc, ◌+◌, ◌-◌, ◌*◌, fold, ◌⊎◌, Bool, true, false, not, ◌&&◌, ◌==◌, nat_lt, nat_le, IsTrue, List, [], ◌∷◌, ◌++◌, length, take, drop, slice_index_or, Option, Some, None, is_some, is_none, ◌||◌, if◌then◌else◌, codes}
+use Rattle.std.specs.List.{position_or_len, before_first, after_first, list_all, list_any}
 use Rattle.std.specs.Str.{bytes_eq}
 use Rattle.std.specs.Option.{option_and_then, option_map, option_map_or, option_or}
 use Rattle.gt_front.specs.declared.words.Job.{Job}
-use Rattle.gt_front.specs.declared.words.Job.TheVariants.{Recode}
+use Rattle.gt_front.specs.declared.words.Job.TheVariants.{Recode, Run}
 use Rattle.gt_front.specs.declared.words.WordName.{WordName}
-use Rattle.gt_front.specs.declared.words.WordName.TheVariants.{In, Out}
+use Rattle.gt_front.specs.declared.words.WordName.TheVariants.{In, Out, Input, Steps}
 use Rattle.gt_front.specs.declared.words.Need.{Need}
 use Rattle.gt_front.specs.declared.words.Need.TheVariants.{Required, Optional, Unknown}
 
 -- the job that the first word names
 abbrev pub job_named : List ℕ → Option Job
-job_named word = if bytes_eq word (codes "recode") then Some Recode else None
+job_named word =
+    if bytes_eq word (codes "recode") then Some Recode
+    else (if bytes_eq word (codes "run") then Some Run else None)
 
 -- the name that stands before a word's `=`
 abbrev pub name_named : List ℕ → Option WordName
 name_named text =
     if bytes_eq text (codes "in") then Some In
-    else (if bytes_eq text (codes "out") then Some Out else None)
+    else (if bytes_eq text (codes "out") then Some Out
+    else (if bytes_eq text (codes "input") then Some Input
+    else (if bytes_eq text (codes "steps") then Some Steps else None)))
 
 -- each job's names
 abbrev pub need_of : Job → WordName → Need
 need_of Recode In = Required
 need_of Recode Out = Required
+need_of Recode Input = Unknown
+need_of Recode Steps = Unknown
+need_of Run In = Required
+need_of Run Out = Required
+need_of Run Input = Optional
+need_of Run Steps = Optional
 
 -- the name of a file has 1 to 4,096 bytes
 abbrev pub is_file_name : List ℕ → Bool
 is_file_name value = nat_lt 0 (length value) && nat_le (length value) 4096
 
+-- is a byte a decimal digit
+abbrev pub is_digit : ℕ → Bool
+is_digit byte = nat_le 48 byte && nat_le byte 57
+
+-- the number that decimal digits stand for
+abbrev pub decimal_value : List ℕ → ℕ
+decimal_value digits = fold (λ value digit. 10 * value + (digit - 48)) 0 digits
+
+-- the number that a text of one decimal digit and more stands for, where it isn't above the most
+abbrev pub number_of : ℕ → List ℕ → Option ℕ
+number_of most text =
+    if nat_lt 0 (length text) && list_all is_digit text && nat_le (decimal_value text) most
+    then Some (decimal_value text) else None
+
+-- the most steps of a run, and how many there are where the words don't say
+abbrev pub most_steps : ℕ
+most_steps = 10000000
+
+abbrev pub steps_unsaid : ℕ
+steps_unsaid = 1000000
+
 -- what may stand behind the `=` of a name
 abbrev pub value_fits : WordName → List ℕ → Bool
 value_fits In value = is_file_name value
 value_fits Out value = is_file_name value
+value_fits Input value = is_file_name value
+value_fits Steps value = is_some (number_of most_steps value)
 
 -- is this byte `=`
 abbrev pub is_equals : ℕ → Bool
@@ -49,6 +82,8 @@ word_parts word =
 abbrev pub same_name : WordName → WordName → Bool
 same_name In In = true
 same_name Out Out = true
+same_name Input Input = true
+same_name Steps Steps = true
 same_name _ _ = false
 
 -- the value that a word gives to a name
@@ -87,10 +122,18 @@ lacks job words name = wanted (need_of job name) where
   wanted Optional = false
   wanted Unknown = false
 
+-- the names of words
+abbrev pub all_names : List WordName
+all_names = In ∷ Out ∷ Input ∷ Steps ∷ []
+
+-- does a job want some name that no word gives
+abbrev pub lacks_any : Job → List (List ℕ) → Bool
+lacks_any job words = list_any (lacks job words) all_names
+
 -- is a name wanting that the job requires, or the job itself
 abbrev pub is_short : List (List ℕ) → Bool
 is_short [] = true
-is_short (first ∷ words) = option_map_or (λ job. lacks job words In || lacks job words Out) (job_named first) true
+is_short (first ∷ words) = option_map_or (λ job. lacks_any job words) (job_named first) true
 
 -- each of the first words keeps the rules
 abbrev pub FineBelow : List (List ℕ) → ℕ → Type 0

@@ -3,6 +3,7 @@ ghost use Rattle.gt_front.specs.Answer.{status_of};
 
 use crate::format_fault::FormatFault;
 use gr_base::Text;
+use link_image::ImageFault;
 
 /// What an input file is to a job, in the order in which they are read.
 #[derive(Clone, Copy, Debug, PartialEq, Eq)]
@@ -28,6 +29,8 @@ pub enum Answer {
     Format(FormatFault),
     /// The file was read whole, and isn't one of those that can be taken so far.
     NotYet,
+    /// The bytes aren't an image.
+    Image(ImageFault),
 }
 
 impl Answer {
@@ -44,6 +47,7 @@ impl Answer {
             Answer::TooLarge(_) => 6,
             Answer::Format(_) => 7,
             Answer::NotYet => 99,
+            Answer::Image(_) => 14,
         }
     }
 }

@@ -19,6 +19,7 @@ pub fn read_input<D: Desk>(
     ensures steady { D.steady desk.new ≡ D.steady desk.old }
     ensures read_later { D.read_faults desk.old ≤ D.read_faults desk.new }
     ensures write_later { D.write_faults desk.old ≤ D.write_faults desk.new }
+    ensures taken_later { D.taken desk.old ≤ D.taken desk.new }
     ensures refused { IfErr result (Refuses role name.now (D.files desk.old) (D.steady desk.old)
         (record { read_before = D.read_faults desk.old; read_now = D.read_faults desk.new; taken_before = D.taken desk.old; taken_now = D.taken desk.new })) }
 {

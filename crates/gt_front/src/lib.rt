@@ -6,8 +6,11 @@ mod answer;
 mod files;
 mod format_fault;
 mod note;
+mod number;
 mod recode;
+mod run;
 mod serve;
+mod state;
 mod thin;
 mod words;
 

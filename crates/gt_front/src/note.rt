@@ -43,6 +43,7 @@ impl fmt::Display for Answer {
             Answer::TooLarge(role) => write!(f, "too large: {role}"),
             Answer::Format(fault) => write!(f, "format: {fault}"),
             Answer::NotYet => write!(f, "not yet"),
+            Answer::Image(fault) => write!(f, "image at {}", fault.place),
         }
     }
 }

@@ -8,7 +8,8 @@ ghost use Rattle.gt_front.specs.Causes.{ReadFaultCause, TooLargeCause, WriteFaul
 
 use crate::answer::Answer;
 use crate::recode::recode;
-use crate::words::parse_words;
+use crate::run::run;
+use crate::words::{Request, parse_words};
 use gr_base::{Desk, Seq, Text};
 use std::alloc::Global;
 
@@ -29,7 +30,8 @@ pub fn serve_words<D: Desk>(alloc: Global, words: &Seq<Text>, desk: &mut D) -> A
     ensures kept { ToldBoth (D.files desk.old) (D.files desk.new) (Kept (Outcome words.now) (file_of names.Out words.now) result) }
 {
     match parse_words(words.as_slice()) {
-        Ok(words) => recode(alloc, desk, words.input, words.output),
+        Ok(Request::Recode(words)) => recode(alloc, desk, words.input, words.output),
+        Ok(Request::Run(words)) => run(alloc, desk, words),
         Err(index) => Answer::Usage(index),
     }
 }

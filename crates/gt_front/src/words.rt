@@ -1,15 +1,25 @@
-ghost use Rattle.std.specs.Prelude.{◌≡◌, ◌<◌, ◌≤◌, IsTrue, ◌↔◌, length, Some, None, IfSome, IfNone, IfOk, IfErr, take, slice_index_or, [], false};
+ghost use Rattle.std.specs.Prelude.{◌≡◌, ◌<◌, ◌≤◌, IsTrue, ◌↔◌, length, Some, None, IfSome, IfNone, IfOk, IfErr, take, slice_index_or, [], false, true};
 ghost use Rattle.std.specs.Option.{option_map, option_copied};
-ghost use Rattle.gt_front.specs.Words.{job_named, name_named, need_of, value_fits, word_parts, value_of, may_follow, is_fine, Usage, FineBelow};
-ghost use Rattle.gt_front.specs.Asks.{Asks};
+ghost use Rattle.gt_front.specs.Words.{job_named, name_named, need_of, value_fits, word_parts, value_of, may_follow, is_fine, lacks_any, Usage, FineBelow};
+ghost use Rattle.gt_front.specs.declared.words.Job.TheVariants as jobs;
+ghost use Rattle.gt_front.specs.Asks.{Asks, Gives, job_asked};
 
+use crate::number::number;
 use gr_base::Text;
+
+/// The most steps of a run.
+const MOST_STEPS: u64 = 10_000_000;
+
+/// The steps of a run whose words don't say how many.
+const STEPS_UNSAID: u64 = 1_000_000;
 
 /// What the program can be asked to do.
 #[derive(Clone, Copy, Debug, PartialEq, Eq)]
 pub enum Job {
     /// Reads a GTIRB file and writes it canonically.
     Recode,
+    /// Runs an image and writes its output.
+    Run,
 }
 
 /// The name before the `=` of a command word.
@@ -17,6 +27,8 @@ pub enum Job {
 pub enum WordName {
     In,
     Out,
+    Input,
+    Steps,
 }
 
 /// Whether a job takes a word of some name.
@@ -34,6 +46,7 @@ impl Job {
     {
         match word {
             "recode" => Some(Job::Recode),
+            "run" => Some(Job::Run),
             _ => None,
         }
     }
@@ -42,7 +55,9 @@ impl Job {
         ensures { result ≡ need_of self name }
     {
         match (self, name) {
-            (Job::Recode, WordName::In | WordName::Out) => Need::Required,
+            (Job::Recode | Job::Run, WordName::In | WordName::Out) => Need::Required,
+            (Job::Run, WordName::Input | WordName::Steps) => Need::Optional,
+            (Job::Recode, WordName::Input | WordName::Steps) => Need::Unknown,
         }
     }
 }
@@ -54,6 +69,8 @@ impl WordName {
         match text {
             "in" => Some(WordName::In),
             "out" => Some(WordName::Out),
+            "input" => Some(WordName::Input),
+            "steps" => Some(WordName::Steps),
             _ => None,
         }
     }
@@ -63,7 +80,9 @@ impl WordName {
         ensures { result ≡ value_fits self value.now }
     {
         match self {
-            WordName::In | WordName::Out => !value.is_empty() && value.len() <= 4096,
+            WordName::In | WordName::Out | WordName::Input => !value.is_empty()
+                && value.len() <= 4096,
+            WordName::Steps => number(value, MOST_STEPS).is_some(),
         }
     }
 }
@@ -112,6 +131,22 @@ pub struct RecodeWords<'a> {
     pub output: &'a str,
 }
 
+/// The words of `run`.
+#[derive(Clone, Copy, Debug)]
+pub struct RunWords<'a> {
+    pub image: &'a str,
+    pub input: Option<&'a str>,
+    pub output: &'a str,
+    pub steps: u64,
+}
+
+/// What a well-formed list of words asks for.
+#[derive(Clone, Copy, Debug)]
+pub enum Request<'a> {
+    Recode(RecodeWords<'a>),
+    Run(RunWords<'a>),
+}
+
 /// The index of the first word that breaks the rules.
 fn first_bad(words: &[Text]) -> Option<usize>
     ensures fault { IfSome result (λ index. FineBelow words.now index × (index < length words.now) × (is_fine (take index words.now) (slice_index_or words.now index []) ≡ false)) }
@@ -125,9 +160,44 @@ fn first_bad(words: &[Text]) -> Option<usize>
     None
 }
 
+/// The words behind `recode`, where none is missing.
+fn recode_words(rest: &[Text]) -> Option<Request<'_>>
+    ensures job { IfSome result (λ asked. job_asked asked ≡ jobs.Recode) }
+    ensures given { IfSome result (Gives rest.now) }
+    ensures missing { IfNone result (lacks_any jobs.Recode rest.now ≡ true) }
+{
+    let (Some(input), Some(output)) = (value_in(WordName::In, rest), value_in(WordName::Out, rest))
+    else {
+        return None;
+    };
+    Some(Request::Recode(RecodeWords { input, output }))
+}
+
+/// The words behind `run`, where none is missing.
+fn run_words(rest: &[Text]) -> Option<Request<'_>>
+    ensures job { IfSome result (λ asked. job_asked asked ≡ jobs.Run) }
+    ensures given { IfSome result (Gives rest.now) }
+    ensures missing { IfNone result (lacks_any jobs.Run rest.now ≡ true) }
+{
+    let (Some(image), Some(output)) = (value_in(WordName::In, rest), value_in(WordName::Out, rest))
+    else {
+        return None;
+    };
+    let input = value_in(WordName::Input, rest);
+    let steps = value_in(WordName::Steps, rest)
+        .and_then(|text| number(text, MOST_STEPS))
+        .unwrap_or(STEPS_UNSAID);
+    Some(Request::Run(RunWords {
+        image,
+        input,
+        output,
+        steps,
+    }))
+}
+
 /// What the words ask for, or the index of the first one that breaks the rules, or the number of words
 /// where only a required one is missing.
-pub fn parse_words(words: &[Text]) -> Result<RecodeWords<'_>, u64>
+pub fn parse_words(words: &[Text]) -> Result<Request<'_>, u64>
     ensures asked { IfOk result (Asks words.now) }
     ensures usage { IfErr result (Usage words.now) }
 {
@@ -138,11 +208,13 @@ pub fn parse_words(words: &[Text]) -> Result<RecodeWords<'_>, u64>
     let [first, rest @ ..] = words else {
         return short;
     };
-    match Job::named(first.as_str()) {
-        Some(Job::Recode) => match (value_in(WordName::In, rest), value_in(WordName::Out, rest)) {
-            (Some(input), Some(output)) => Ok(RecodeWords { input, output }),
-            _ => short,
-        },
+    let asked = match Job::named(first.as_str()) {
+        Some(Job::Recode) => recode_words(rest),
+        Some(Job::Run) => run_words(rest),
+        None => None,
+    };
+    match asked {
+        Some(asked) => Ok(asked),
         None => short,
     }
 }

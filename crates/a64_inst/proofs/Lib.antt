@@ -1,0 +1,5 @@
+mod Joining
+mod Splitting
+mod Apart
+mod Rows
+mod RowLaws

@@ -1,0 +1,21 @@
+ghost use Rattle.std.specs.Prelude.{◌≡◌, ◌≤◌, ◌^◌};
+ghost use Rattle.gt_front.specs.Words.{number_of};
+
+/// The number of a word: decimal digits, at most the most.
+pub fn number(text: &str, most: u64) -> Option<u64>
+    requires { most ≤ 2 ^ 32 }
+    ensures { result ≡ number_of most text.now }
+{
+    if text.is_empty() {
+        return None;
+    }
+    let mut value = 0;
+    for byte in text.as_bytes() {
+        if *byte < b'0' || *byte > b'9' {
+            return None;
+        }
+        // What is past the most stays past it.
+        value = (10 * value + u64::from(*byte - b'0')).min(most + 1);
+    }
+    if value <= most { Some(value) } else { None }
+}
