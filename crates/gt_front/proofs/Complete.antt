@@ -1,9 +1,9 @@
 -- Where every input can be read and no fault rose, a job's own answer comes.
-use Rattle.std.proofs.Common.{◌≡◌, ◌⊎◌, List, [], ◌∷◌, ◌++◌, ℕ, Bool, IsTrue, Option, None, Some, refl, inl, inr, sym, ◌∙◌, ap, subst}
-use Rattle.gr_base.specs.Desk.{Files, Told, Rose}
+use Rattle.std.proofs.Common.{◌≡◌, ◌⊎◌, List, ℕ, Bool, IsTrue, Option, None, Some, refl, inl, inr, sym}
+use Rattle.gr_base.specs.Desk.{Files, Rose}
 use Rattle.gt_front.specs.declared.answer.Answer.{Answer}
 use Rattle.gt_front.specs.declared.answer.Answer.TheVariants.{Done, Usage, ReadFault, WriteFault, Memory, TooLarge, Format, NotYet, Image}
-use Rattle.gt_front.specs.Inputs.{InputFile, IsReadable, AllReadable, Reaches}
+use Rattle.gt_front.specs.Inputs.{InputFile, AllReadable}
 use Rattle.gt_front.specs.Causes.{ReadFaultCause, TooLargeCause, WriteFaultCause, IsOwn, IsComplete, Outcomes, Settles}
 use Rattle.gt_front.proofs.FirstBad.{missing_unreadable, large_unreadable}
 use Rattle.gt_front.proofs.Ends.{none_bad}

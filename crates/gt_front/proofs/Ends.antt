@@ -5,7 +5,7 @@ use Rattle.gt_front.specs.declared.answer.Role.{Role}
 use Rattle.gt_front.specs.declared.answer.Answer.{Answer}
 use Rattle.gt_front.specs.declared.answer.Answer.TheVariants.{Done, Usage, ReadFault, WriteFault, Memory, TooLarge, Format, NotYet, Image}
 use Rattle.gt_front.specs.Inputs.{InputFile, IsReadable, IsTooLarge, AllReadable, Reaches, Names}
-use Rattle.gt_front.specs.Causes.{ReadFaultCause, TooLargeCause, WriteFaultCause, IsOwn, Kept, Outcomes, Settles, TellsTruth}
+use Rattle.gt_front.specs.Causes.{ReadFaultCause, TooLargeCause, WriteFaultCause, IsOwn, Kept, Outcomes}
 use Rattle.gt_front.specs.Reads.{Counts, Refuses, Writes}
 use Rattle.gt_front.proofs.FirstBad.{first_one, all_at, missing_unreadable, large_unreadable, missing_not_large}
 

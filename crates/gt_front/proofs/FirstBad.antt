@@ -1,9 +1,8 @@
 -- The first input that can't be read is one input.
-use Rattle.std.proofs.Common.{◌≡◌, List, [], ◌∷◌, ◌++◌, ℕ, ◌<◌, ◌≤◌, ◌^◌, length, Option, None, Some, subst, refl, arith}
+use Rattle.std.proofs.Common.{◌≡◌, List, [], ◌∷◌, ◌++◌, ℕ, ◌<◌, ◌≤◌, ◌^◌, length, None, subst, arith}
 use Rattle.std.specs.List.{AllByRecursion}
 use Rattle.gr_base.specs.Desk.{Files}
-use Rattle.gt_front.specs.declared.answer.Role.{Role}
-use Rattle.gt_front.specs.Inputs.{InputFile, IsReadable, IsTooLarge, AllReadable, Reaches, Names}
+use Rattle.gt_front.specs.Inputs.{IsReadable, IsTooLarge}
 
 module _ {X : Type 0} (P : X → Type 0) where
   -- where P fails first, it fails once

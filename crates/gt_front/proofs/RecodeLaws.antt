@@ -1,11 +1,9 @@
 -- What `recode` gives for some bytes is one answer.
-use Rattle.std.proofs.Common.{◌≡◌, ◌≢◌, ◌⊎◌, List, [], ℕ, Option, Some, refl, inl, inr, sym, ◌∙◌, ap, subst}
+use Rattle.std.proofs.Common.{◌≡◌, ◌⊎◌, List, [], ℕ, Option, Some, refl, inl, inr, sym, ◌∙◌, ap, subst}
 use Rattle.gr_base.specs.Desk.{Files, Told}
 use Rattle.gt_front.specs.declared.answer.Answer.{Answer}
 use Rattle.gt_front.specs.declared.answer.Answer.TheVariants.{Done, Usage, ReadFault, WriteFault, Memory, TooLarge, Format, NotYet, Image}
-use Rattle.gt_front.specs.declared.format_fault.FormatFault.{FormatFault}
 use Rattle.gt_front.specs.declared.format_fault.FormatFault.TheVariants.{Version}
-use Rattle.gt_front.specs.Thin.{Thin, thin_spelling}
 use Rattle.gt_front.specs.Recode.{RecodeGives, RecodeOf, done_text}
 use Rattle.gt_front.specs.Causes.{IsOwn}
 use Rattle.gt_front.proofs.Ends.{told_map, gave_own, NotRefused}

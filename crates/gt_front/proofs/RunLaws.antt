@@ -6,7 +6,6 @@ use Rattle.gr_base.specs.declared.end.End.TheVariants as endings
 use Rattle.link_image.specs.declared.image.Image.{Image as AnImage}
 use Rattle.link_image.specs.declared.fault.ImageFault.{ImageFault}
 use Rattle.link_image.specs.Reading.{image_fault}
-use Rattle.link_image.specs.Valid.{image_bytes}
 use Rattle.link_image.proofs.Images.{one_image, apart}
 use Rattle.num_run.specs.Run.{num_run}
 use Rattle.gt_front.specs.declared.answer.Answer.{Answer}

@@ -1,20 +1,18 @@
 -- The outcome, the inputs and the output of the words of each job.
 use Rattle.std.proofs.Common.{◌≡◌, List, [], ◌∷◌, ◌++◌, ◌≤◌, ℕ, drop, Option, None, Some, unwrap_or, sym, ◌∙◌, ap, arith, refl}
-use Rattle.std.specs.Prelude.{Bool, true, false, ◌&&◌, nat_le, nat_lt, length, cond}
-use Rattle.std.specs.List.{list_all}
+use Rattle.std.specs.Prelude.{Bool, true, false, ◌&&◌, nat_le, cond}
 use Rattle.std.specs.Option.{option_map, option_and_then}
 use Rattle.std.proofs.lemmas.Bool.Decides.{nat_tests}
 use Rattle.gt_front.specs.declared.answer.Role.TheVariants.{In, Input}
 use Rattle.gt_front.specs.declared.words.Job.{Job}
-use Rattle.gt_front.specs.declared.words.Job.TheVariants as jobs
 use Rattle.gt_front.specs.declared.words.WordName.TheVariants as names
 use Rattle.gt_front.specs.declared.words.RecodeWords.{RecodeWords}
 use Rattle.gt_front.specs.declared.words.RunWords.{RunWords}
 use Rattle.gt_front.specs.declared.words.Request.TheVariants.{Recode, Run}
-use Rattle.gt_front.specs.Words.{value_of, number_of, is_digit, decimal_value, most_steps}
-use Rattle.gt_front.specs.Asks.{Asks, job_of, steps_in}
+use Rattle.gt_front.specs.Words.{value_of, number_of, decimal_value}
+use Rattle.gt_front.specs.Asks.{Asks, steps_in}
 use Rattle.gt_front.specs.Causes.{Outcomes}
-use Rattle.gt_front.specs.Inputs.{InputFile, inputs_of, inputs_for, input_as}
+use Rattle.gt_front.specs.Inputs.{inputs_of, inputs_for, input_as}
 use Rattle.gt_front.specs.Outcome.{Outcome, outcome_of, file_of}
 use Rattle.gt_front.specs.Recode.{RecodeOf}
 use Rattle.gt_front.specs.Run.{RunOf}

@@ -1,5 +1,5 @@
 -- A file is thin in one way.
-use Rattle.std.proofs.Common.{◌≡◌, ◌↔◌, ◌≤◌, ◌+◌, ◌-◌, List, [], ◌∷◌, ◌++◌, ℕ, length, codes, map, take, drop, get_or, length-take, length-drop, length-append, refl, sym, ◌∙◌, ap, subst, arith}
+use Rattle.std.proofs.Common.{◌≡◌, ◌≤◌, ◌+◌, ◌-◌, List, [], ◌∷◌, ◌++◌, ℕ, length, codes, map, take, drop, get_or, length-take, length-drop, length-append, refl, sym, ◌∙◌, ap, subst, arith}
 use Rattle.std.specs.Prelude.{Bool, true, false, not}
 use Rattle.std.specs.Str.{bytes_eq}
 use Rattle.std.proofs.lemmas.List.{take_all}
@@ -10,7 +10,7 @@ use Rattle.pb_wire.specs.declared.records.Load.TheVariants.{Varint, Run}
 use Rattle.pb_wire.specs.declared.records.Record.{Record}
 use Rattle.pb_wire.specs.declared.records.Span.{Span}
 use Rattle.pb_wire.specs.Records.{records, content_of}
-use Rattle.pb_wire.proofs.Lists.{one_list, spelling_long}
+use Rattle.pb_wire.proofs.Lists.{one_list}
 use Rattle.gt_front.specs.Thin.{Thin, thin_records, body_place, Goes, Stops, IsUuidRecord, IsVersionRecord}
 
 -- two spellings of a prefix and a body have one version byte and one body

@@ -1,5 +1,5 @@
 -- The bytes that a writer of an identifier and a version has made.
-use Rattle.std.proofs.Common.{◌≡◌, ℕ, List, [], ◌∷◌, ◌++◌, length, codes, append_assoc, refl, sym, ◌∙◌, ap}
+use Rattle.std.proofs.Common.{◌≡◌, ℕ, List, [], ◌∷◌, ◌++◌, length, codes, append_assoc, refl, ◌∙◌, ap}
 use Rattle.pb_wire.specs.Varint.{shortest, shortest_within}
 use Rattle.gt_front.specs.Thin.{thin_spelling}
 

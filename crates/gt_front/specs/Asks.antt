@@ -4,8 +4,6 @@ use Rattle.std.specs.Option.{option_and_then, option_map}
 use Rattle.gt_front.specs.declared.words.Job.{Job}
 use Rattle.gt_front.specs.declared.words.Job.TheVariants as jobs
 use Rattle.gt_front.specs.declared.words.WordName.TheVariants.{In, Out, Input, Steps}
-use Rattle.gt_front.specs.declared.words.RecodeWords.{RecodeWords}
-use Rattle.gt_front.specs.declared.words.RunWords.{RunWords}
 use Rattle.gt_front.specs.declared.words.Request.{Request}
 use Rattle.gt_front.specs.declared.words.Request.TheVariants.{Recode, Run}
 use Rattle.gt_front.specs.Words.{job_named, value_of, WordsOk, number_of, most_steps, steps_unsaid}

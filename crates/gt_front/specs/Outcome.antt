@@ -1,11 +1,9 @@
 -- The outcome of a job: its own answer over the files, with the bytes that it writes.
-use Rattle.std.specs.Prelude.{◌≡◌, ℕ, List, [], drop, Option, Some, None, unwrap_or}
-use Rattle.gr_base.specs.Desk.{Files}
-use Rattle.gt_front.specs.declared.answer.Answer.{Answer}
+use Rattle.std.specs.Prelude.{ℕ, List, [], drop, Option, Some, None, unwrap_or}
 use Rattle.gt_front.specs.declared.words.Job.{Job}
 use Rattle.gt_front.specs.declared.words.Job.TheVariants.{Recode, Run}
 use Rattle.gt_front.specs.declared.words.WordName.{WordName}
-use Rattle.gt_front.specs.declared.words.WordName.TheVariants.{In, Out, Input}
+use Rattle.gt_front.specs.declared.words.WordName.TheVariants.{In, Input}
 use Rattle.gt_front.specs.Words.{value_of}
 use Rattle.gt_front.specs.Asks.{job_of, steps_in}
 use Rattle.gt_front.specs.Causes.{Outcomes}

@@ -1,6 +1,6 @@
 -- What a job learns from one read and one write of a file.
-use Rattle.std.specs.Prelude.{◌≡◌, ◌⊎◌, ◌≤◌, ℕ, ◌+◌, ◌^◌, Bool, IsTrue, List, Option, Some, None}
-use Rattle.gr_base.specs.Desk.{Files, Told, ToldBoth, SameFiles, Leaves, LeavesPart, Rose, Took}
+use Rattle.std.specs.Prelude.{◌≡◌, ℕ, ◌+◌, ◌^◌, Bool, IsTrue, List, Option, None}
+use Rattle.gr_base.specs.Desk.{Files, Told, ToldBoth, Leaves, LeavesPart, Rose, Took}
 use Rattle.gt_front.specs.declared.answer.Role.{Role}
 use Rattle.gt_front.specs.declared.answer.Answer.{Answer}
 use Rattle.gt_front.specs.declared.answer.Answer.TheVariants.{Done, Usage, ReadFault, WriteFault, Memory, TooLarge, Format, NotYet, Image}

@@ -1,0 +1,4 @@
+pub mod Lookups
+pub mod Seen
+pub mod Spans
+pub mod Starts

@@ -1,3 +1,5 @@
 pub mod Machine
 pub mod Numeric
 pub mod Run
+pub mod Mapped
+pub mod Runner

@@ -1,7 +1,8 @@
 -- A machine whose values are numbers: what it holds between two instructions.
-use Rattle.std.specs.Prelude.{ℕ, zero, suc, ◌+◌, ◌-◌, ◌*◌, ◌/◌, ◌%◌, Bool, true, ◌&&◌, nat_le, nat_lt, if◌then◌else◌, List, [], ◌∷◌, map, length, Option, Some, None, is_some, unwrap_or, slice_index, slice_set}
+use Rattle.std.specs.Prelude.{ℕ, zero, suc, ◌+◌, ◌-◌, ◌*◌, ◌/◌, ◌%◌, Bool, true, ◌&&◌, nat_le, nat_lt, if◌then◌else◌, List, [], ◌∷◌, map, replicate, length, Option, Some, None, is_some, unwrap_or, slice_index, slice_set}
 use Rattle.std.specs.List.{list_all, range_with_len}
 use Rattle.a64_inst.specs.Numbers.{Flags}
+use Rattle.link_image.specs.declared.image.Image.{Image}
 use Rattle.link_image.specs.declared.image.Segment.{Segment}
 use Rattle.link_image.specs.Valid.{end_of}
 
@@ -23,6 +24,10 @@ pub record Machine : Type 0 where
 abbrev pub byte_in : List Segment → Mapping
 byte_in [] at = None
 byte_in (s ∷ segments) at = if nat_le s.at at && nat_lt at (end_of s) then Some (slice_index s.bytes (at - s.at)) else byte_in segments at
+
+-- the stack as a segment of zeros
+abbrev pub stack_of : Image → Segment
+stack_of image = record { at = image.stack_at; bytes = replicate image.stack_size 0 }
 
 -- each of so many bytes from an address on is mapped
 abbrev pub is_mapped : Mapping → ℕ → ℕ → Bool

@@ -22,7 +22,7 @@ stored count n at m = if is_mapped m.memory at count then next (record m { memor
 abbrev pub loaded : ℕ → Bool → ℕ → ℕ → Machine → Outcome ℕ
 loaded count signed width at m =
     if is_mapped m.memory at count then
-      next (if signed then sign_extended (8 * count) width (number_of (bytes_from m.memory at count)) else number_of (bytes_from m.memory at count))
+    next (if signed then sign_extended (8 * count) width (number_of (bytes_from m.memory at count)) else number_of (bytes_from m.memory at count))
     else ended (trapped traps.Fault)
 
 -- call 64 writes as many bytes as X2 says, from the address in X1 on; the output ends at 2 ^ 24 bytes

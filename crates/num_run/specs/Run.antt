@@ -6,11 +6,10 @@ use Rattle.a64_inst.specs.Domain.{Event, exit, trapped, Answer, next, ended, stu
 use Rattle.a64_inst.specs.Meaning.{ops}
 use Rattle.a64_inst.specs.Table.{row}
 use Rattle.link_image.specs.declared.image.Image.{Image}
-use Rattle.link_image.specs.declared.image.Segment.{Segment}
 use Rattle.num_run.specs.declared.report.RunEnd.{RunEnd}
 use Rattle.num_run.specs.declared.report.RunEnd.TheVariants as ends
 use Rattle.num_run.specs.declared.report.RunReport.{RunReport}
-use Rattle.num_run.specs.Machine.{Machine, byte_in, word_at}
+use Rattle.num_run.specs.Machine.{Machine, byte_in, stack_of, word_at}
 use Rattle.num_run.specs.Numeric.{Outcome, numeric}
 
 -- the word at the place, which is a multiple of 4 and mapped
@@ -30,10 +29,6 @@ performed (Some word) m = executed (row word) m
 -- one step
 unfoldable pub step : Machine → Outcome Machine
 step m = performed (fetched m) m
-
--- the stack as a segment of zeros
-abbrev pub stack_of : Image → Segment
-stack_of image = record { at = image.stack_at; bytes = replicate image.stack_size 0 }
 
 -- the machine before the first instruction of an image
 abbrev pub start : Image → List ℕ → Machine

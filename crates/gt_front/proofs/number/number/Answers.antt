@@ -1,4 +1,4 @@
-use Rattle.std.proofs.Common.{◌≡◌, ◌+◌, ◌≤◌, ◌<◌, length, get_or, arith, ◌∙◌, ℕ, ◌*◌, min, ap}
+use Rattle.std.proofs.Common.{◌+◌, ◌≤◌, ◌<◌, length, get_or, arith, ◌∙◌, ℕ, ◌*◌, min, ap}
 use Rattle.gt_front.proofs.Numbers.{step_value, step_digits, digit_true}
 use Rattle.gt_front.proofs.number.number.Goals as goal
 

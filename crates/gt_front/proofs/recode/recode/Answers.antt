@@ -1,7 +1,5 @@
-use Rattle.std.proofs.Common.{◌≡◌, ◌⊎◌, ◌∷◌, [], IfOk, IfErr, ℕ, List, ◌++◌, refl, inl, inr}
-use Rattle.gt_front.specs.declared.answer.Answer.TheVariants as answers
+use Rattle.std.proofs.Common.{[], refl}
 use Rattle.gt_front.specs.declared.answer.Role.TheVariants as roles
-use Rattle.gt_front.specs.Inputs.{InputFile, AllReadable}
 use Rattle.gt_front.specs.Recode.{RecodeOf}
 use Rattle.gt_front.proofs.Ends.{read_fault_none, too_large_none, refused_read_fault, refused_too_large, told_always, told_readable, finished_not_refused, finished_write_fault, finished_own, finished_kept}
 use Rattle.gt_front.proofs.RecodeLaws.{one_recode, recode_of, refusal_plain, refusal_own}

@@ -1,6 +1,5 @@
-use Rattle.std.proofs.Common.{◌≡◌, ◌⊎◌, ◌∷◌, [], ℕ, List, ◌++◌, None, Some, refl, inl, inr, sym, ◌∙◌}
+use Rattle.std.proofs.Common.{[], None, refl}
 use Rattle.gt_front.specs.declared.answer.Role.TheVariants as roles
-use Rattle.gt_front.specs.Inputs.{InputFile, AllReadable}
 use Rattle.gt_front.specs.Run.{RunOf}
 use Rattle.gt_front.proofs.Ends.{read_fault_none, too_large_none, refused_read_fault, refused_too_large, told_always, told_readable, finished_not_refused, finished_write_fault, finished_own, finished_kept}
 use Rattle.gt_front.proofs.RunLaws.{one_run, run_alone_of, refusal_plain, refusal_alone, refusal_kept}

@@ -1,10 +1,8 @@
-use Rattle.std.proofs.Common.{arith, ◌≡◌, ◌⊎◌, ◌∷◌, [], ℕ, List, ◌++◌, None, Some, refl, inl, inr, sym, ◌∙◌}
+use Rattle.std.proofs.Common.{arith, ◌≡◌, ◌∷◌, [], Some, refl, ◌∙◌}
 use Rattle.gt_front.specs.declared.answer.Role.TheVariants as roles
-use Rattle.gt_front.specs.Inputs.{InputFile, AllReadable}
 use Rattle.gt_front.specs.Run.{RunOf}
 use Rattle.gt_front.proofs.Ends.{read_fault_none, too_large_none, refused_read_fault, refused_too_large, told_always, told_readable, told_readable2, told_back, same_both, refused_back, finished_not_refused, finished_write_fault, finished_own, finished_kept}
 use Rattle.gt_front.proofs.RunLaws.{one_run, run_with_of, refusal_plain, refusal_with, refusal_kept}
-use Rattle.gt_front.specs.Reads.{Counts}
 use Rattle.gt_front.proofs.run.run_with.Goals as goal
 
 pub returns-in-Err-clause-read_fault : goal.returns-in-Err-clause-read_fault

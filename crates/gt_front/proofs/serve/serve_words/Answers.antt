@@ -1,4 +1,4 @@
-use Rattle.std.proofs.Common.{◌≡◌, ◌⊎◌, ℕ, List, subst, drop, ◌∷◌, []}
+use Rattle.std.proofs.Common.{ℕ, List, subst, drop}
 use Rattle.gr_base.specs.Desk.{ToldBoth}
 use Rattle.gt_front.specs.Inputs.{InputFile}
 use Rattle.gt_front.specs.Causes.{Outcomes, ReadFaultCause, TooLargeCause, WriteFaultCause, IsOwn, Kept}

@@ -1,4 +1,4 @@
-use Rattle.std.proofs.Common.{◌≡◌, ◌≤◌, length, take, drop, arith}
+use Rattle.std.proofs.Common.{◌≤◌, length, take, drop, arith}
 use Rattle.gt_front.proofs.ThinLaws.{filler_two, same_letters, cut_prefix}
 use Rattle.gt_front.proofs.thin.prefix_and_body.Goals as goal
 

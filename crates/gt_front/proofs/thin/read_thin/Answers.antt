@@ -1,4 +1,4 @@
-use Rattle.std.proofs.Common.{◌≡◌, refl}
+use Rattle.std.proofs.Common.{refl}
 use Rattle.gt_front.proofs.ThinLaws.{no_thin, its_uuid, its_version, is_thin}
 use Rattle.gt_front.proofs.thin.read_thin.Goals as goal
 

@@ -1,4 +1,3 @@
-use Rattle.std.proofs.Common.{◌≡◌, []}
 use Rattle.gt_front.proofs.ThinLaws.{two_are, no_first, no_second, no_end}
 use Rattle.gt_front.proofs.thin.two_records.Goals as goal
 
