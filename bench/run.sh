@@ -8,13 +8,13 @@ program=crates/gtirb_a64/out/gtirb_a64
 command -v gcc >/dev/null || { echo "bench: gcc is missing, nothing to compare with"; exit 0; }
 work=$(mktemp -d)
 trap 'rm -rf "$work"' EXIT
-gcc -O2 -o "$work/interpreter" bench/interpreter.c
+gcc -O2 -o "$work/interpreter" bench/plain_interpreter.c
 python3 - "$program" "$work/interpreter" "$work" <<'PY'
 import resource, struct, subprocess, sys, time
 program, interpreter, work = sys.argv[1:]
-STEPS = 4_000_000  # the most HINTs that fit the 2^24 bytes of an image, less the stack
+STEPS = 4_000_000  # about as many HINTs as an image of 2 ** 24 bytes holds
 code = struct.pack("<I", 0xD503201F) * STEPS
-image = b"GRIMG001" + struct.pack("<6Q", 0x100000, 0x10000, 0x1000, 1, 0x100000, len(code)) + code
+image = b"GRIMG001" + struct.pack("<6Q", 0x100000, 0x10000, 16, 1, 0x100000, len(code)) + code
 open(f"{work}/hints", "wb").write(image)
 
 def best(command, runs=5):

@@ -1,3 +1,4 @@
+pub mod Ends
 pub mod Lookups
 pub mod Seen
 pub mod Spans

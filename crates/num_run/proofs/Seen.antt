@@ -1,9 +1,7 @@
 -- What is seen of a run, step by step.
-use Rattle.std.proofs.Common.{◌≡◌, ℕ, zero, suc, ◌+◌, ◌-◌, ◌<◌, ◌≤◌, refl, sym, ap, ◌∙◌, arith}
-use Rattle.a64_inst.specs.Domain.{Answer, next, ended, stuck, exit, trapped}
+use Rattle.std.proofs.Common.{◌≡◌, ℕ, suc, ◌+◌, refl}
 use Rattle.num_run.specs.declared.report.RunEnd.{RunEnd}
 use Rattle.num_run.specs.declared.report.RunEnd.TheVariants.{Running, Exit, Trap}
-use Rattle.num_run.specs.declared.report.RunReport.{RunReport}
 use Rattle.num_run.specs.Machine.{Machine}
 use Rattle.num_run.specs.Run.{step, seen_after}
 use Rattle.num_run.specs.Runner.{Comes}

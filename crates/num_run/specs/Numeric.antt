@@ -1,9 +1,8 @@
 -- What operations do in a machine whose values are numbers.
-use Rattle.std.specs.Prelude.{ℕ, ◌+◌, ◌*◌, ◌/◌, ◌%◌, ◌^◌, min, Bool, true, false, not, ◌==◌, nat_lt, if◌then◌else◌, List, ◌++◌, length, take, drop}
-use Rattle.a64_inst.specs.declared.trap.Trap.{Trap}
+use Rattle.std.specs.Prelude.{ℕ, ◌+◌, ◌*◌, ◌/◌, ◌%◌, ◌^◌, min, Bool, false, not, ◌==◌, nat_lt, if◌then◌else◌, ◌++◌, length, take, drop}
 use Rattle.a64_inst.specs.declared.trap.Trap.TheVariants as traps
 use Rattle.a64_inst.specs.Numbers.{sign_extended, bit_of, sum_value, sum_flags, carry_flags, logic_flags, named_flags, holds, unary_value, binary_value, chosen, zero_bit}
-use Rattle.a64_inst.specs.Domain.{Event, exit, trapped, Answer, next, ended, Domain}
+use Rattle.a64_inst.specs.Domain.{exit, trapped, Answer, next, ended, Domain}
 use Rattle.num_run.specs.Machine.{Machine, is_mapped, bytes_from, with_bytes, number_of, bytes_of, register, with_register}
 
 -- what an operation comes to; a machine of numbers is never stuck

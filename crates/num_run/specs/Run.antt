@@ -2,7 +2,7 @@
 use Rattle.std.specs.Prelude.{ℕ, zero, suc, ◌+◌, ◌%◌, false, ◌==◌, if◌then◌else◌, List, [], ◌∷◌, replicate, Option, Some, None}
 use Rattle.a64_inst.specs.declared.inst.Inst.{Inst}
 use Rattle.a64_inst.specs.declared.trap.Trap.TheVariants as traps
-use Rattle.a64_inst.specs.Domain.{Event, exit, trapped, Answer, next, ended, stuck, exec}
+use Rattle.a64_inst.specs.Domain.{Event, exit, trapped, next, ended, stuck, exec}
 use Rattle.a64_inst.specs.Meaning.{ops}
 use Rattle.a64_inst.specs.Table.{row}
 use Rattle.link_image.specs.declared.image.Image.{Image}

@@ -1,6 +1,5 @@
 -- A runner as a machine.
-use Rattle.std.specs.Prelude.{◌≡◌, List}
-use Rattle.a64_inst.specs.Numbers.{Flags}
+use Rattle.std.specs.Prelude.{◌≡◌}
 use Rattle.a64_inst.specs.Domain.{exit, trapped, next, ended}
 use Rattle.num_run.specs.declared.report.RunEnd.{RunEnd}
 use Rattle.num_run.specs.declared.report.RunEnd.TheVariants.{Running, Exit, Trap}

@@ -63,7 +63,7 @@ impl<'a> Runner<'a> {
         ensures comes { Comes (received at count (machine self.old)) result (machine self.old) (machine self.new) }
     {
         if count == 0 {
-            self.set_register(false, 0, count);
+            self.set_register(false, 0, 0);
             return RunEnd::Running;
         }
         if !self.memory.is_mapped(at, count) {

@@ -3,6 +3,7 @@
 
 mod call;
 mod execute;
+pub mod laws;
 mod memory;
 mod numbers;
 mod report;

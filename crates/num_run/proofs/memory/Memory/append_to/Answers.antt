@@ -1,4 +1,4 @@
-use Rattle.std.proofs.Common.{◌≡◌, ℕ, ◌+◌, ◌∷◌, [], ◌++◌, List, ◌∙◌, sym, ap, append_assoc, arith}
+use Rattle.std.proofs.Common.{◌≡◌, ℕ, ◌+◌, ◌∷◌, [], ◌++◌, List, ◌∙◌, sym, ap, append_assoc}
 use Rattle.std.specs.Prelude.{unwrap_or}
 use Rattle.num_run.specs.Machine.{Mapping, bytes_from}
 use Rattle.num_run.specs.Mapped.{mapped}

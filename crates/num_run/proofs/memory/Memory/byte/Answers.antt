@@ -1,4 +1,3 @@
-use Rattle.std.proofs.Common.{arith}
 use Rattle.num_run.proofs.Lookups.{byte_read}
 use Rattle.num_run.proofs.memory.Memory.byte.Goals as goal
 

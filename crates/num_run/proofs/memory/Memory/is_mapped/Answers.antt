@@ -1,4 +1,4 @@
-use Rattle.std.proofs.Common.{◌≡◌, ℕ, ◌+◌, ◌∙◌, sym, ap, arith}
+use Rattle.std.proofs.Common.{◌+◌, ◌∙◌, sym, ap, arith}
 use Rattle.std.specs.Prelude.{is_some}
 use borrow.Author.Count.{below_more}
 use Rattle.num_run.specs.Mapped.{mapped}

@@ -1,7 +1,4 @@
-use Rattle.std.proofs.Common.{◌≡◌, map, ◌∙◌, sym, refl, subst, List, arith}
-use Rattle.std.proofs.lemmas.List.{length_push}
-use Rattle.num_run.specs.declared.memory.Region.{Region}
-use Rattle.num_run.specs.Mapped.{segment_of, Ascend}
+use Rattle.std.proofs.Common.{◌∙◌, refl, arith}
 use Rattle.num_run.proofs.Starts.{segments_ascend, stack_ascends, starts}
 use Rattle.num_run.proofs.memory.Memory.new.Goals as goal
 

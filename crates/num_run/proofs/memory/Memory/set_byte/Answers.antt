@@ -1,4 +1,4 @@
-use Rattle.std.proofs.Common.{◌-◌, set, refl, arith}
+use Rattle.std.proofs.Common.{◌-◌, refl, arith}
 use Rattle.std.proofs.lemmas.List.{length-set}
 use Rattle.std.specs.Vec.{with_item}
 use Rattle.num_run.specs.declared.memory.Region.{Region}

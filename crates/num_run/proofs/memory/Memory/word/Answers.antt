@@ -1,4 +1,4 @@
-use Rattle.std.proofs.Common.{◌≡◌, ℕ, ◌+◌, List, ◌∙◌, sym, ap, arith}
+use Rattle.std.proofs.Common.{arith}
 use Rattle.num_run.proofs.Lookups.{word_in}
 use Rattle.num_run.proofs.memory.Memory.word.Goals as goal
 

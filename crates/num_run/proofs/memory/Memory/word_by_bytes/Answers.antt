@@ -1,4 +1,4 @@
-use Rattle.std.proofs.Common.{◌≡◌, ℕ, ◌+◌, List, Some, ◌∙◌, sym, ap, arith}
+use Rattle.std.proofs.Common.{ℕ, ◌+◌, Some, ◌∙◌, sym, ap}
 use Rattle.std.specs.Prelude.{unwrap_or}
 use Rattle.num_run.specs.Machine.{Mapping}
 use Rattle.num_run.specs.Mapped.{mapped}
