@@ -1,0 +1,12 @@
+pub mod Again
+pub mod Chosen
+pub mod Index
+pub mod Kept
+pub mod Loops
+pub mod Replacing
+pub mod Scalars
+pub mod Takes
+pub mod Units
+pub mod Views
+pub mod Whole
+pub mod Writing
