@@ -4,13 +4,19 @@
 set -u
 cd "$(dirname "$0")/../crates/gtirb_a64" || exit 1
 command -v rt >/dev/null || { echo "demo: the Rattle kit's rt is not on the path"; exit 1; }
+work=$(mktemp -d) || exit 1
+trap 'rm -rf "$work"' EXIT
 
-# Runs a job on each file of a folder, from standard input to standard output.
+# Runs a job on each file of its folder of examples, from standard input to standard output.
 job() {
-    echo "\$ gtirb_a64 $2 in=- out=-    on each file of examples/$1"
-    rt try --cases "../../examples/$1" -- "$2" in=- out=- 2>&1 | grep -av '^cases=\|^rt:' | cat -v
-    echo
+    rt try --cases "../../examples/$1" -- "$1" in=- out=- >"$work/$1" 2>&1
 }
 
-job recode recode
-job run run
+# The jobs are built side by side.
+for name in recode run; do job "$name" & done
+wait
+for name in recode run; do
+    echo "\$ gtirb_a64 $name in=- out=-    on each file of examples/$name"
+    grep -av '^cases=\|^rt:' "$work/$name" | cat -v
+    echo
+done
