@@ -2,9 +2,13 @@
 #![tactic(auto)]
 
 mod bits;
-mod rows;
+mod branches;
+mod decoding;
+mod immediate;
+mod memory;
+mod registers;
 
-pub use rows::decode;
+pub use decoding::decode;
 
 #[cfg(test)]
 mod tests;

@@ -1,5 +1,6 @@
 mod Joining
-mod Splitting
-mod Apart
-mod Rows
+pub mod Splitting
+pub mod Apart
+pub mod Rows
+mod EachRow
 mod RowLaws

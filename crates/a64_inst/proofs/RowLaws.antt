@@ -1,38 +1,13 @@
--- The laws of the instruction table, row by row.
-use Rattle.std.proofs.Common.{◌≡◌, ℕ, zero, suc, ◌^◌, ◌<◌, true, false, IsTrue, not, ◌&&◌, [], ◌∷◌, take, drop, Option, Some, None, refl, sym, ap, ◌∙◌, arith, inl, inr}
+-- The laws of the instruction table.
+use Rattle.std.proofs.Common.{◌≡◌, ℕ, ◌^◌, ◌<◌, false, IsTrue, not, ◌&&◌, Option, Some, None, sym, ap, ◌∙◌, inl, inr}
 use Rattle.std.specs.Prelude.{option_and_then}
-use Rattle.std.proofs.lemmas.Bool.{and_parts, and_from, cases_Bool, cond-false, cond-true, ltb-true, not-true, not_from_false}
+use Rattle.std.proofs.lemmas.Bool.{and_parts, and_from, cases_Bool, cond-false, cond-true, not-true, not_from_false}
 use Rattle.a64_inst.specs.declared.inst.Inst.{Inst}
-use Rattle.a64_inst.specs.declared.inst.Inst.TheVariants.{MoveWide, SvcBrk, Udf, Hint}
-use Rattle.a64_inst.specs.Table.{table, move_wide, svc, brk, udf, hint, read_rows, row, unreserved, word_of, fields_fit, names_word, is_reserved, is_allowed}
-use Rattle.a64_inst.proofs.Rows.{AreFaithful, read_again, read_is}
-
--- the word of an instruction is read as it
-found : (i : Inst) → fields_fit i ≡ true → names_word i ≡ true → read_rows table (word_of i) ≡ Some i
-found (MoveWide a b c d e) fit named = read_again (take 0 table) move_wide (drop 1 table) (a ∷ b ∷ c ∷ d ∷ e ∷ []) refl refl fit
-found (SvcBrk zero a) fit named = read_again (take 1 table) svc (drop 2 table) (a ∷ []) refl refl fit
-found (SvcBrk (suc zero) a) fit named = read_again (take 2 table) brk (drop 3 table) (a ∷ []) refl refl fit
-found (SvcBrk (suc (suc n)) a) fit named = let below : suc (suc n) < 2 = ltb-true (suc (suc n)) 2 named in absurd (omega arith)
-found (Udf a) fit named = read_again (take 3 table) udf (drop 4 table) (a ∷ []) refl refl fit
-found (Hint a) fit named = read_again (take 4 table) hint (drop 5 table) (a ∷ []) refl refl fit
-
-faithful : AreFaithful table
-faithful = (
-  record { sound = refl; word = λ w. refl; fit = λ w. refl; named = λ w. refl },
-  (
-    record { sound = refl; word = λ w. refl; fit = λ w. refl; named = λ w. refl },
-    (
-      record { sound = refl; word = λ w. refl; fit = λ w. refl; named = λ w. refl },
-      (
-        record { sound = refl; word = λ w. refl; fit = λ w. refl; named = λ w. refl },
-        (
-          record { sound = refl; word = λ w. refl; fit = λ w. refl; named = λ w. refl },
-          tt,
-        ),
-      ),
-    ),
-  ),
-)
+use Rattle.a64_inst.specs.Rows.{table}
+use Rattle.a64_inst.specs.Reserved.{names_word, is_reserved}
+use Rattle.a64_inst.specs.Table.{read_rows, row, unreserved, word_of, fields_fit, is_allowed}
+use Rattle.a64_inst.proofs.Rows.{read_is}
+use Rattle.a64_inst.proofs.EachRow.{found, faithful}
 
 pub row-word_of : (i : Inst) → IsTrue (is_allowed i) → row (word_of i) ≡ Some i
 row-word_of i allowed =

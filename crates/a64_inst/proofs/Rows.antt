@@ -1,10 +1,12 @@
 -- Which row of a table reads a word.
-use Rattle.std.proofs.Common.{◌≡◌, ℕ, ◌%◌, ◌^◌, ◌<◌, Bool, true, ◌&&◌, List, [], ◌∷◌, ◌++◌, Some, refl, sym, ap, ◌∙◌, arith, inl, inr}
+use Rattle.std.proofs.Common.{◌≡◌, ℕ, ◌%◌, ◌^◌, ◌<◌, Bool, true, ◌&&◌, cond, List, [], ◌∷◌, ◌++◌, Option, Some, refl, sym, ap, ◌∙◌, arith, inl, inr}
 use Rattle.std.proofs.lemmas.Bool.{and_parts, cases_Bool, cond-false, cond-true}
 use Rattle.std.proofs.Math.Nat.{mod-eq_of_lt}
 use Rattle.a64_inst.specs.declared.inst.Inst.{Inst}
 use Rattle.a64_inst.specs.Parts.{Part, meets, at_fields, joined, fit_parts}
-use Rattle.a64_inst.specs.Table.{Row, read_rows, word_of, fields_fit, names_word}
+use Rattle.a64_inst.specs.Rows.{Row}
+use Rattle.a64_inst.specs.Reserved.{names_word}
+use Rattle.a64_inst.specs.Table.{read_rows, word_of, fields_fit}
 use Rattle.a64_inst.proofs.Splitting.{is_sound, values_at, applied, at_fields-applied, joined-below, joined-read, read-joined}
 use Rattle.a64_inst.proofs.Apart.{are_apart, not_both}
 
@@ -65,4 +67,30 @@ read_is (r ∷ rows) word i faithful small e =
           let fit : fields_fit (at_fields 32 r.parts r.inst word) ≡ true = faithful.0.fit word ∙ back.1 in
           rw (← same) ((whole, fit, faithful.0.named word))
       | inr h ↦ read_is rows word i faithful.1 small (sym (cond-false (meets 32 r.parts word) (Some (at_fields 32 r.parts r.inst word)) (read_rows rows word) h) ∙ e)
+    ]
+
+-- the rows that have no fixed bit unlike those of the parts
+abbrev pub among : List Part → List Row → List Row
+among parts [] = []
+among parts (r ∷ rows) = cond (is_sound 32 r.parts && are_apart 32 r.parts parts) (among parts rows) (r ∷ among parts rows)
+
+-- these rows alone read a word that has the fixed bits of the parts
+pub read_among : (parts : List Part) (rows : List Row) (word : ℕ) → is_sound 32 parts ≡ true → meets 32 parts word ≡ true → read_rows rows word ≡ read_rows (among parts rows) word
+read_among parts [] word sound met = refl
+read_among parts (r ∷ rows) word sound met =
+    let others = read_among parts rows word sound met in
+    elim (cases_Bool (is_sound 32 r.parts && are_apart 32 r.parts parts)) [
+      | inl h ↦
+          let a = and_parts (is_sound 32 r.parts) (are_apart 32 r.parts parts) h in
+          let dropped : among parts (r ∷ rows) ≡ among parts rows = cond-true (is_sound 32 r.parts && are_apart 32 r.parts parts) (among parts rows) (r ∷ among parts rows) h in
+          let away : read_rows (r ∷ rows) word ≡ read_rows rows word =
+          elim (cases_Bool (meets 32 r.parts word)) [
+            | inl m ↦ absurd (not_both 32 r.parts parts word (omega arith) a.0 sound a.1 m met)
+            | inr m ↦ cond-false (meets 32 r.parts word) (Some (at_fields 32 r.parts r.inst word)) (read_rows rows word) m
+          ] in
+          away ∙ others ∙ ap (λ (rs : List Row). read_rows rs word) (sym dropped)
+      | inr h ↦
+          let kept : among parts (r ∷ rows) ≡ r ∷ among parts rows = cond-false (is_sound 32 r.parts && are_apart 32 r.parts parts) (among parts rows) (r ∷ among parts rows) h in
+          let with_first : read_rows (r ∷ rows) word ≡ read_rows (r ∷ among parts rows) word = ap (λ (o : Option Inst). cond (meets 32 r.parts word) (Some (at_fields 32 r.parts r.inst word)) o) others in
+          with_first ∙ ap (λ (rs : List Row). read_rows rs word) (sym kept)
     ]

@@ -1,5 +1,7 @@
 pub mod Parts
 pub mod Pieces
+pub mod Rows
+pub mod Reserved
 pub mod Table
 pub mod Numbers
 pub mod Operations

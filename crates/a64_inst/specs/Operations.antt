@@ -6,12 +6,35 @@ use Rattle.a64_inst.specs.declared.trap.Trap.{Trap}
 pub data Unary : Type 0 where
   -- these sixteen bits in the place of those from a place on (MOVK)
   insert : ℕ → ℕ → Unary
+  -- a shift by an amount: 0 to the left, 1 to the right, 2 to the right with copies of the top bit, 3 round to the right
+  shift : ℕ → ℕ → Unary
+  -- the low 8, 16, 32 or 64 bits as an option names them, extended, and then shifted to the left (ExtendReg)
+  extend : ℕ → ℕ → Unary
+  -- bits moved down to 0, or from 0 up, and for true the topmost of them copied upward: immr, imms (UBFM, SBFM)
+  bitfield : Bool → ℕ → ℕ → Unary
+  -- all bits turned round, where it is so
+  inverted : Bool → Unary
+  -- what the opcode of a row of one source names: RBIT, REV16, REV32, REV, CLZ, CLS
+  one_source : ℕ → Unary
+  -- one bit
+  bit : ℕ → Unary
 
 -- A function of two numbers.
 pub data Binary : Type 0 where
-  -- a plus b, a less b, of numbers alone
-  plain_sum : Binary
-  plain_difference : Binary
+  -- what an opc of the logical rows names, where it is so with the second number inverted
+  logic : ℕ → Bool → Binary
+  -- what the opcode of a row of two sources names: UDIV, SDIV, LSLV, LSRV, ASRV, RORV
+  two_sources : ℕ → Binary
+  -- bits of the second number moved as by `bitfield` into the first: immr, imms (BFM)
+  bitfield_into : ℕ → ℕ → Binary
+  -- bits of both numbers from a place of the second on (EXTR)
+  extract : ℕ → Binary
+  -- the product; that of the low 32 bits of each, for true signed; the upper 64 bits of that of 64 bits each
+  product : Binary
+  long_product : Bool → Binary
+  high_product : Bool → Binary
+  -- a plus b, or for true a less b, of numbers alone
+  plain_sum : Bool → Binary
 
 -- An operation. Those of the first group give a value, which later ones name by its place among the
 -- values so far. Widths are in bits, lengths of accesses in bytes.

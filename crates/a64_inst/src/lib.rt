@@ -3,6 +3,7 @@
 
 mod inst;
 pub mod laws;
+mod reserved;
 mod rules;
 mod trap;
 mod words;

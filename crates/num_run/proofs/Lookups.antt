@@ -1,21 +1,19 @@
 -- Where an address is mapped, among regions that ascend.
-use Rattle.std.proofs.Common.{◌≡◌, ℕ, zero, suc, ◌+◌, ◌-◌, ◌^◌, ◌<◌, ◌≤◌, Bool, true, false, ◌&&◌, leb, ltb, List, [], ◌∷◌, length, get_or, set, take, drop, map, Option, Some, None, All, refl, sym, ap, subst, ◌∙◌, ◌⊎◌, inl, inr, add-zero, arith}
+use Rattle.std.proofs.Common.{◌≡◌, ℕ, zero, suc, ◌+◌, ◌-◌, ◌^◌, ◌<◌, ◌≤◌, Bool, true, false, ◌&&◌, leb, ltb, List, [], ◌∷◌, length, get_or, take, drop, map, Option, Some, None, All, refl, sym, ap, subst, ◌∙◌, ◌⊎◌, inl, inr, arith}
 use Rattle.std.specs.Prelude.{AllPairs, ◌↔◌, is_some, unwrap_or}
-use Rattle.std.specs.Int.{w32, from_le_bytes}
 use Rattle.std.specs.List.{insert}
 use Rattle.std.specs.List.Sorted.{IsPartitionPoint, IsNonDecreasingBy}
-use Rattle.std.proofs.lemmas.Bool.{le-leb, lt-leb, lt-ltb, le-ltb, cases_lt, cases_eq, true≢false}
+use Rattle.std.proofs.lemmas.Bool.{le-leb, lt-leb, lt-ltb, le-ltb, cases_lt, true≢false}
 use Rattle.std.proofs.lemmas.List.Elements.{All-head, All-tail, All-cons, All-append, All-take, All-drop}
+use Rattle.std.proofs.lemmas.List.FromFn.{length-map-range_with_len, get_or-map-range_with_len}
 use Rattle.std.proofs.lemmas.List.Kept.{AllPairs-cons}
 use Rattle.std.proofs.Math.ListN.{get_or-map}
-use Rattle.std.proofs.lemmas.List.{length-map, get_or_read, get_or-take, get_or-drop, length-set, get_or-set_same, get_or-set_other}
-use Rattle.std.proofs.Math.Path.{fun_ext}
+use Rattle.std.proofs.lemmas.List.{ext_get_or, length-map, length-drop, length-take-le, get_or_read, get_or-take, get_or-drop}
 use Rattle.link_image.specs.declared.image.Segment.{Segment}
 use Rattle.link_image.specs.Valid.{end_of}
-use Rattle.num_run.specs.declared.memory.Region.{Region}
-use Rattle.num_run.specs.Machine.{Mapping, byte_in, with_bytes, word_at}
-use Rattle.num_run.proofs.Spans.{is_mapped-each, word_from_bytes}
-use Rattle.num_run.specs.Mapped.{segment_of, Has, Ascend, HasAt}
+use Rattle.num_run.specs.declared.region.Region.{Region}
+use Rattle.num_run.specs.Machine.{byte_in, bytes_from}
+use Rattle.num_run.specs.Mapped.{segment_of, Has, HasAll, Ascend, HasAt}
 
 -- where each region of a list begins at most where the next ends
 pub starts_rise : (regions : List Region) → Ascend regions → IsNonDecreasingBy (λ region. region.at) regions
@@ -70,90 +68,6 @@ none_but_last regions at count ascend within point last =
       | inr behind ↦ inl (point.1 k d behind lt)
     ])
 
--- a region with one byte changed
-pub record Changed (at byte : ℕ) (old new : Region) : Type 0 where
-  pub same_at : new.at ≡ old.at
-  pub bytes : new.bytes.items ≡ set old.bytes.items (at - old.at) byte
-
-Changed-end : (at byte : ℕ) (old new : Region) → Changed at byte old new → end_of (segment_of new) ≡ end_of (segment_of old)
-Changed-end at byte old new changed = omega (arith, changed.same_at, ap length changed.bytes, length-set old.bytes.items (at - old.at) byte)
-
-module _ (regions : List Region) (index at byte : ℕ) (region : Region) (within : index < length regions) (changed : (d : Region) → Changed at byte (get_or regions index d) region) where
-  starts-set : (i : ℕ) (d : Region) → (get_or (set regions index region) i d).at ≡ (get_or regions i d).at
-  starts-set i d =
-      elim (cases_eq i index) [
-        | inl same ↦ rw (same, get_or-set_same regions index region d within) (changed d).same_at
-        | inr other ↦ ap (λ (r : Region). r.at) (get_or-set_other regions index i region d other)
-      ]
-
-  ends-set : (i : ℕ) (d : Region) → end_of (segment_of (get_or (set regions index region) i d)) ≡ end_of (segment_of (get_or regions i d))
-  ends-set i d =
-      elim (cases_eq i index) [
-        | inl same ↦ rw (same, get_or-set_same regions index region d within) (Changed-end at byte (get_or regions index d) region (changed d))
-        | inr other ↦ ap (λ (r : Region). end_of (segment_of r)) (get_or-set_other regions index i region d other)
-      ]
-
-  -- regions still ascend
-  pub Ascend-set : Ascend regions → Ascend (set regions index region)
-  Ascend-set ascend = record {
-    apart = λ i j d lt below. omega (arith, ends-set i d, starts-set j d, ascend.apart i j d lt (omega (arith, length-set regions index region)));
-    high = λ i d below. omega (arith, ends-set i d, ascend.high i d (omega (arith, length-set regions index region)));
-  }
-
--- other bytes stay
-byte_in-set_other : (regions : List Region) (index at byte other : ℕ) (region : Region) → index < length regions → ((d : Region) → Changed at byte (get_or regions index d) region)
-    → (other ≡ at → ⊥) → ((d : Region) → (get_or regions index d).at ≤ at) → byte_in (map segment_of (set regions index region)) other ≡ byte_in (map segment_of regions) other
-byte_in-set_other [] index at byte other region within changed apart low = absurd (omega arith)
-byte_in-set_other (old ∷ regions) zero at byte other region within changed apart low =
-    let c = changed old in
-    elim (cases_lt other old.at) [
-      | inl below ↦
-          let new_off : leb region.at other ≡ false = lt-leb region.at other (omega (arith, c.same_at)) in
-          let old_off : leb old.at other ≡ false = lt-leb old.at other below in
-          rw (new_off, old_off) refl
-      | inr here ↦
-          let apart_here : other - old.at ≡ at - old.at → ⊥ = λ e. apart (omega (arith, low old)) in
-          let len : length region.bytes.items ≡ length old.bytes.items = ap length c.bytes ∙ length-set old.bytes.items (at - old.at) byte in
-          let same : get_or region.bytes.items (other - region.at) 0 ≡ get_or old.bytes.items (other - old.at) 0 =
-          ap (λ (n : ℕ). get_or region.bytes.items (other - n) 0) c.same_at ∙ ap (λ (xs : List ℕ). get_or xs (other - old.at) 0) c.bytes ∙ get_or-set_other old.bytes.items (at - old.at) (other - old.at) byte 0 apart_here in
-          let start = c.same_at in
-          cc
-    ]
-byte_in-set_other (old ∷ regions) (suc index) at byte other region within changed apart low =
-    rw (byte_in-set_other regions index at byte other region (omega arith) changed apart low) refl
-
-with_byte-same : (m : Mapping) (at byte : ℕ) → with_bytes m at (byte ∷ []) at ≡ Some byte
-with_byte-same m at byte =
-    let zero_off : at - at ≡ 0 = omega arith in
-    rw (le-leb at at (omega arith), lt-ltb at (at + 1) (omega arith), zero_off) refl
-
-with_byte-other : (m : Mapping) (at byte a : ℕ) → (a ≡ at → ⊥) → with_bytes m at (byte ∷ []) a ≡ m a
-with_byte-other m at byte a apart =
-    elim (cases_lt a at) [
-      | inl below ↦ rw (lt-leb at a below) refl
-      | inr low ↦ rw (le-leb at a low, le-ltb a (at + 1) (omega arith)) refl
-    ]
-
--- one byte changes
-pub byte_in-set : (regions : List Region) (index at byte : ℕ) (region : Region) → Ascend regions → HasAt regions index at → ((d : Region) → Changed at byte (get_or regions index d) region)
-    → byte_in (map segment_of (set regions index region)) ≡ with_bytes (byte_in (map segment_of regions)) at (byte ∷ [])
-byte_in-set regions index at byte region ascend has changed =
-    let old = get_or regions index region in
-    let c = changed region in
-    let h = has.has region in
-    let here : get_or (set regions index region) index region ≡ region = get_or-set_same regions index region region has.within in
-    let there : Has at region = record { low = omega (arith, c.same_at, h.low); high = omega (arith, Changed-end at byte old region c, h.high) } in
-    let found = byte_in-has (set regions index region) index at region (Ascend-set regions index at byte region has.within changed ascend) (omega (arith, length-set regions index region, has.within)) (rw here there) in
-    let offset : at - region.at ≡ at - old.at = omega (arith, c.same_at) in
-    let written : get_or region.bytes.items (at - region.at) 0 ≡ byte =
-    ap (λ (n : ℕ). get_or region.bytes.items n 0) offset ∙ ap (λ (xs : List ℕ). get_or xs (at - old.at) 0) c.bytes ∙ get_or-set_same old.bytes.items (at - old.at) byte 0 (omega (arith, h.low, h.high)) in
-    let read : byte_in (map segment_of (set regions index region)) at ≡ Some byte = found ∙ ap (λ (r : Region). Some (get_or r.bytes.items (at - r.at) 0)) here ∙ ap (λ (b : ℕ). Some b) written in
-    fun_ext (λ a. elim (cases_eq a at) [
-      | inl same ↦ rw same (read ∙ sym (with_byte-same (byte_in (map segment_of regions)) at byte))
-      | inr other ↦
-          byte_in-set_other regions index at byte a region has.within changed other (λ d. (has.has d).low) ∙ sym (with_byte-other (byte_in (map segment_of regions)) at byte a other)
-    ])
-
 -- the byte that is read at an index and an offset
 pub byte_read : (regions : List Region) (index at : ℕ) (region : Region) (byte : ℕ) → Ascend regions → HasAt regions index at → region ≡ get_or regions index region → byte ≡ get_or region.bytes.items (at - region.at) byte
     → Some byte ≡ byte_in (map segment_of regions) at
@@ -173,12 +87,6 @@ lacks_read regions index at region has d within low is tells lacks =
       | inr beyond ↦ beyond
     ]
 
--- the region that was read, with one byte changed
-pub Changed-from_read : (regions : List Region) (index at byte : ℕ) (old new : Region) → index < length regions → old ≡ get_or regions index old → new.at ≡ old.at → new.bytes.items ≡ set old.bytes.items (at - old.at) byte
-    → (d : Region) → Changed at byte (get_or regions index d) new
-Changed-from_read regions index at byte old new within is same_at bytes d =
-    subst (λ (r : Region). Changed at byte r new) (get_or_read regions index old within is d) (record { same_at = same_at; bytes = bytes })
-
 -- no address from 2 ^ 64 on is mapped
 pub none_beyond : (regions : List Region) (at : ℕ) → Ascend regions → 2 ^ 64 ≤ at → byte_in (map segment_of regions) at ≡ None
 none_beyond regions at ascend beyond = byte_in-none regions at (λ k d lt. inr (omega (arith, ascend.high k d lt)))
@@ -195,23 +103,25 @@ mapped_fits regions at ascend there =
       | inr beyond ↦ absurd (is_some-none (byte_in (map segment_of regions) at) (none_beyond regions at ascend beyond) there)
     ]
 
--- four bytes of one region are a word
-pub word_in : (regions : List Region) (index at word : ℕ) (region : Region) → Ascend regions → index < length regions → region ≡ get_or regions index region
-    → region.at ≤ at → at - region.at + 4 ≤ length region.bytes.items → word ≡ from_le_bytes w32 (take 4 (drop (at - region.at) region.bytes.items)) → Some word ≡ word_at (byte_in (map segment_of regions)) at
-word_in regions index at word region ascend within is low room value =
+-- the bytes of one region from an address on
+pub bytes_in : (regions : List Region) (index at count : ℕ) (region : Region) → Ascend regions → index < length regions → region ≡ get_or regions index region → HasAll at count region
+    → take count (drop (at - region.at) region.bytes.items) ≡ bytes_from (byte_in (map segment_of regions)) at count
+bytes_in regions index at count region ascend within is has =
     let m = byte_in (map segment_of regions) in
     let items = region.bytes.items in
     let offset = at - region.at in
-    let there : (k : ℕ) → k < 4 → m (at + k) ≡ Some (get_or items (offset + k) 0) = λ k lt.
-    let has : Has (at + k) region = record { low = omega arith; high = omega arith } in
+    let low = has.low in
+    let high = has.high in
+    let room : count ≤ length (drop offset items) = omega (arith, length-drop offset items) in
+    let len : length (take count (drop offset items)) ≡ count = length-take-le count (drop offset items) room in
+    ext_get_or 0 (take count (drop offset items)) (bytes_from m at count) (len ∙ sym (length-map-range_with_len (λ a. unwrap_or (m a) 0) at count)) (λ k lt.
+    let below : k < count = omega arith in
+    let here : Has (at + k) region = record { low = omega arith; high = omega arith } in
     let place : at + k - region.at ≡ offset + k = omega arith in
-    byte_in-has regions index (at + k) region ascend within (subst (λ (r : Region). Has (at + k) r) is has) ∙ ap (λ (r : Region). Some (get_or r.bytes.items (at + k - r.at) 0)) (sym is) ∙ ap (λ (n : ℕ). Some (get_or items n 0)) place in
-    let byte : (k : ℕ) → k < 4 → get_or (take 4 (drop offset items)) k 0 ≡ get_or items (offset + k) 0 = λ k lt. get_or-take 4 (drop offset items) k 0 lt ∙ get_or-drop offset items k 0 in
-    let is_there : (k : ℕ) → k < 4 → get_or items (offset + k) 0 ≡ unwrap_or (m (at + k)) 0 = λ k lt. sym (ap (λ (o : Option ℕ). unwrap_or o 0) (there k lt)) in
-    let first : get_or items (offset + 0) 0 ≡ unwrap_or (m at) 0 = is_there 0 (omega arith) ∙ ap (λ (a : ℕ). unwrap_or (m a) 0) (add-zero at) in
-    let parts : word ≡ from_le_bytes w32 (get_or items (offset + 0) 0 ∷ get_or items (offset + 1) 0 ∷ get_or items (offset + 2) 0 ∷ get_or items (offset + 3) 0 ∷ []) = omega (arith, value, byte 0 (omega arith), byte 1 (omega arith), byte 2 (omega arith), byte 3 (omega arith)) in
-    ap (λ (w : ℕ). Some w) parts ∙ word_from_bytes m at (get_or items (offset + 0) 0) (get_or items (offset + 1) 0) (get_or items (offset + 2) 0) (get_or items (offset + 3) 0)
-    (is_mapped-each m at 4 (λ k lt. ap is_some (there k lt))) first (is_there 1 (omega arith)) (is_there 2 (omega arith)) (is_there 3 (omega arith))
+    let there : m (at + k) ≡ Some (get_or items (offset + k) 0) =
+    byte_in-has regions index (at + k) region ascend within (subst (λ (r : Region). Has (at + k) r) is here) ∙ ap (λ (r : Region). Some (get_or r.bytes.items (at + k - r.at) 0)) (sym is) ∙ ap (λ (n : ℕ). Some (get_or items n 0)) place in
+    get_or-take count (drop offset items) k 0 below ∙ get_or-drop offset items k 0
+    ∙ sym (get_or-map-range_with_len (λ a. unwrap_or (m a) 0) at count k (at + k) 0 below refl ∙ ap (λ (o : Option ℕ). unwrap_or o 0) there))
 
 -- segments that ascend, as regions
 pub Ascend-from_segments : (regions : List Region) (segments : List Segment) → map segment_of regions ≡ segments → AllPairs (λ s later. end_of s ≤ later.at) segments → All (λ s. end_of s < 2 ^ 64) segments → Ascend regions

@@ -1,12 +1,11 @@
 -- Bytes from an address on, in what stands at each address.
-use Rattle.std.proofs.Common.{◌≡◌, ℕ, zero, suc, ◌+◌, ◌-◌, ◌<◌, ◌≤◌, Bool, true, false, ◌&&◌, List, [], ◌∷◌, ◌++◌, length, Option, Some, refl, sym, ap, subst, ◌∙◌, inl, inr, add-zero, add_assoc, arith}
+use Rattle.std.proofs.Common.{◌≡◌, ℕ, zero, suc, ◌+◌, ◌-◌, ◌<◌, ◌≤◌, Bool, true, false, ◌&&◌, List, [], ◌∷◌, ◌++◌, length, Option, refl, sym, ap, subst, ◌∙◌, inl, inr, add-zero, arith}
 use Rattle.std.specs.Prelude.{is_some, unwrap_or}
-use Rattle.std.specs.Int.{w32, from_le_bytes}
 use Rattle.std.proofs.lemmas.Bool.{le-leb, lt-leb, lt-ltb, le-ltb, cases_lt, cases_eq, true≢false}
 use Rattle.std.proofs.lemmas.List.{length_push, get_or_push, get_or_append_left}
 use Rattle.std.proofs.lemmas.List.FromFn.{map-range_with_len_more}
 use Rattle.std.proofs.Math.Path.{fun_ext}
-use Rattle.num_run.specs.Machine.{Mapping, is_mapped, bytes_from, with_bytes, number_of, word_at}
+use Rattle.num_run.specs.Machine.{Mapping, is_mapped, bytes_from, with_bytes}
 
 -- what was read at an address, in what stands there
 pub read_is : (m n : Mapping) (here at : ℕ) (o : Option ℕ) → o ≡ m here → m ≡ n → here ≡ at → o ≡ n at
@@ -78,17 +77,3 @@ with_bytes-none m at =
       | inl below ↦ rw (lt-leb at a below) refl
       | inr low ↦ with_bytes-behind m at [] a (omega arith)
     ])
-
-word_value : (b0 b1 b2 b3 c0 c1 c2 c3 : ℕ) → b0 ≡ c0 → b1 ≡ c1 → b2 ≡ c2 → b3 ≡ c3 → from_le_bytes w32 (b0 ∷ b1 ∷ b2 ∷ b3 ∷ []) ≡ number_of (c0 ∷ c1 ∷ c2 ∷ c3 ∷ [])
-word_value b0 b1 b2 b3 c0 c1 c2 c3 e0 e1 e2 e3 = omega arith
-
-pub word_is : (m : Mapping) (at word : ℕ) → is_mapped m at 4 ≡ true → word ≡ number_of (bytes_from m at 4) → Some word ≡ word_at m at
-word_is m at word all value = rw (value, all) refl
-
--- a word of four bytes
-pub word_from_bytes : (m : Mapping) (at b0 b1 b2 b3 : ℕ) → is_mapped m at 4 ≡ true → b0 ≡ unwrap_or (m at) 0 → b1 ≡ unwrap_or (m (at + 1)) 0 → b2 ≡ unwrap_or (m (at + 2)) 0 → b3 ≡ unwrap_or (m (at + 3)) 0
-    → Some (from_le_bytes w32 (b0 ∷ b1 ∷ b2 ∷ b3 ∷ [])) ≡ word_at m at
-word_from_bytes m at b0 b1 b2 b3 all e0 e1 e2 e3 =
-    let e2' : b2 ≡ unwrap_or (m (at + 1 + 1)) 0 = e2 ∙ ap (λ (a : ℕ). unwrap_or (m a) 0) (sym (add_assoc at 1 1)) in
-    let e3' : b3 ≡ unwrap_or (m (at + 1 + 1 + 1)) 0 = e3 ∙ ap (λ (a : ℕ). unwrap_or (m a) 0) (sym (add_assoc at 1 2) ∙ sym (add_assoc (at + 1) 1 1)) in
-    word_is m at (from_le_bytes w32 (b0 ∷ b1 ∷ b2 ∷ b3 ∷ [])) all (word_value b0 b1 b2 b3 _ _ _ _ e0 e1 e2' e3')

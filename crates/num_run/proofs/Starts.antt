@@ -9,7 +9,7 @@ use Rattle.std.proofs.Math.Path.{fun_ext}
 use Rattle.link_image.specs.declared.image.Image.{Image}
 use Rattle.link_image.specs.declared.image.Segment.{Segment}
 use Rattle.link_image.specs.Valid.{end_of, IsSegment, image_ok}
-use Rattle.num_run.specs.declared.memory.Region.{Region}
+use Rattle.num_run.specs.declared.region.Region.{Region}
 use Rattle.num_run.specs.Machine.{byte_in, stack_of}
 use Rattle.num_run.specs.Mapped.{segment_of, Ascend}
 use Rattle.num_run.proofs.Lookups.{Ascend-from_segments, Ascend-insert, byte_in-insert}

@@ -46,9 +46,13 @@ abbrev pub number_of : List ℕ → ℕ
 number_of [] = 0
 number_of (b ∷ bytes) = b + 256 * number_of bytes
 
--- the number of four bytes from an address on, which are all mapped
+-- the number of so many bytes from an address on, which are all mapped
+abbrev pub number_at : Mapping → ℕ → ℕ → Option ℕ
+number_at memory at count = if is_mapped memory at count then Some (number_of (bytes_from memory at count)) else None
+
+-- the number of the four bytes of a word
 abbrev pub word_at : Mapping → ℕ → Option ℕ
-word_at memory at = if is_mapped memory at 4 then Some (number_of (bytes_from memory at 4)) else None
+word_at memory at = number_at memory at 4
 
 -- so many bytes of a number, the low one first
 abbrev pub bytes_of : ℕ → ℕ → List ℕ

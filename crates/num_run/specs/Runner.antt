@@ -1,19 +1,25 @@
 -- A runner as a machine.
 use Rattle.std.specs.Prelude.{◌≡◌}
+use Rattle.a64_inst.specs.Numbers.{Flags}
 use Rattle.a64_inst.specs.Domain.{exit, trapped, next, ended}
 use Rattle.num_run.specs.declared.report.RunEnd.{RunEnd}
 use Rattle.num_run.specs.declared.report.RunEnd.TheVariants.{Running, Exit, Trap}
+use Rattle.num_run.specs.declared.runner.Flags as runner
 use Rattle.num_run.specs.declared.runner.Runner.{Runner}
 use Rattle.num_run.specs.Machine.{Machine}
 use Rattle.num_run.specs.Numeric.{Outcome}
 use Rattle.num_run.specs.Mapped.{mapped}
+
+-- the flags of a runner
+abbrev pub flags_of : runner.Flags → Flags
+flags_of flags = record { n = flags.n; z = flags.z; c = flags.c; v = flags.v }
 
 -- the machine that a runner stands for
 abbrev pub machine : Runner → Machine
 machine runner = record {
   registers = runner.registers;
   stack_pointer = runner.stack_pointer;
-  flags = record { n = runner.flags.n; z = runner.flags.z; c = runner.flags.c; v = runner.flags.v };
+  flags = flags_of runner.flags;
   memory = mapped runner.memory;
   place = runner.place;
   input = runner.input.now;

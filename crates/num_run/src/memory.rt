@@ -1,27 +1,22 @@
-ghost use Rattle.std.specs.Prelude.{◌≡◌, ◌≤◌, ◌<◌, ◌+◌, ◌-◌, ◌^◌, ◌↔◌, [], ◌∷◌, ◌++◌, length, vec_len, take, drop, IsTrue, IsSome, IfSome, MatchOption, None, OnOk, IfOk, unwrap_or, map};
-ghost use Rattle.std.specs.Int.{w32, from_le_bytes};
+ghost use Rattle.std.specs.Prelude.{◌≡◌, ◌≤◌, ◌<◌, ◌+◌, ◌-◌, ◌^◌, [], ◌∷◌, ◌++◌, length, vec_len, replicate, IsTrue, IsSome, MatchOption, None, OnOk, IfOk, unwrap_or, map, if◌then◌else◌};
 ghost use Rattle.std.specs.List.Sorted.{IsPartitionPoint};
-ghost use Rattle.num_run.specs.Machine.{byte_in, stack_of, with_bytes, bytes_from, is_mapped, word_at};
+ghost use Rattle.num_run.specs.Machine.{byte_in, stack_of, with_bytes, bytes_from, bytes_of, is_mapped, number_at, word_at};
 ghost use Rattle.link_image.specs.Valid.{image_ok};
-ghost use Rattle.num_run.specs.Mapped.{segment_of, Ascend, Has, HasAt, IsMemory, mapped};
+ghost use Rattle.num_run.specs.Mapped.{segment_of, Ascend, HasAt, IsMemory, mapped};
 
+use crate::region::Region;
 use link_image::{Image, Segment};
 use std::alloc::{AllocError, Global};
-
-/// Mapped bytes, and the address of the first.
-#[derive(Debug, Drop)]
-pub struct Region {
-    at: u64,
-    bytes: Vec<u8>,
-}
 
 /// The bytes of the stack and of the segments.
 #[derive(Debug, Drop)]
 pub struct Memory {
     /// These ascend.
     regions: Vec<Region>,
-    /// The region that was used last.
-    last: usize,
+    /// The region of the last instruction.
+    last_code: usize,
+    /// The region of the last access.
+    last_data: usize,
 }
 
 /// How many regions begin at an address or below it.
@@ -47,20 +42,17 @@ fn regions_of(alloc: Global, segments: &[Segment]) -> Result<Vec<Region>, AllocE
     Ok(regions)
 }
 
-impl Region {
-    /// The four bytes at an address as a number, the low one first, where the region has them all.
-    fn word(&self, at: u64) -> Option<u32>
-        ensures { IfSome result (λ word. (self.now.at ≤ at) × (at - self.now.at + 4 ≤ vec_len self.now.bytes) × (word ≡ from_le_bytes w32 (take 4 (drop (at - self.now.at) self.now.bytes.items)))) }
-    {
-        let offset = at.checked_sub(self.at)? as usize;
-        let bytes = self.bytes.get(offset..)?.first_chunk::<4>()?;
-        Some(u32::from_le_bytes(*bytes))
-    }
-
-    fn has(&self, at: u64) -> bool
-        ensures { IsTrue result ↔ Has at self.now }
-    {
-        at >= self.at && at - self.at < self.bytes.len() as u64
+/// How many bytes `size` counts.
+pub fn byte_count(size: u8) -> u64
+    requires { size < 4 }
+    ensures count { result ≡ 2 ^ size }
+    ensures most { result ≤ 8 }
+{
+    match size {
+        0 => 1,
+        1 => 2,
+        2 => 4,
+        _ => 8,
     }
 }
 
@@ -78,7 +70,11 @@ impl Memory {
             bytes: vec![in alloc; 0; image.stack_size as usize]?,
         };
         regions.insert(index, stack)?;
-        Ok(Memory { regions, last: 0 })
+        Ok(Memory {
+            regions,
+            last_code: 0,
+            last_data: 0,
+        })
     }
 
     /// The region that has an address.
@@ -86,8 +82,8 @@ impl Memory {
         requires { IsMemory self.now }
         ensures { MatchOption result (mapped self.now at ≡ None) (λ index. HasAt self.now.regions.items index at) }
     {
-        if self.regions[self.last].has(at) {
-            return Some(self.last);
+        if self.regions[self.last_data].has(at) {
+            return Some(self.last_data);
         }
         let begun = begun(&self.regions, at);
         if begun == 0 || !self.regions[begun - 1].has(at) {
@@ -104,7 +100,7 @@ impl Memory {
         ensures same { mapped self.new ≡ mapped self.old }
     {
         let index = self.find(at)?;
-        self.last = index;
+        self.last_data = index;
         let region = &self.regions[index];
         Some(region.bytes[(at - region.at) as usize])
     }
@@ -126,26 +122,40 @@ impl Memory {
         ensures byte { mapped self.new ≡ with_bytes (mapped self.old) at (byte ∷ []) }
     {
         if let Some(index) = self.find(at) {
-            self.last = index;
+            self.last_data = index;
             let region = &mut self.regions[index];
             let offset = (at - region.at) as usize;
             region.bytes[offset] = byte;
         }
     }
 
-    /// The four bytes at an address as a number, the low one first, where they are all mapped.
+    /// The four bytes of an instruction as a number, the low one first, where they are all mapped.
     pub fn word(&mut self, at: u64) -> Option<u32>
         requires { IsMemory self.old }
         ensures word { result ≡ word_at (mapped self.old) at }
         ensures memory { IsMemory self.new }
         ensures same { mapped self.new ≡ mapped self.old }
     {
-        match self.regions[self.last].word(at) {
-            Some(word) => Some(word),
+        match self.regions[self.last_code].number(at, 2) {
+            Some(word) => Some(word as u32),
+            None => self.word_elsewhere(at),
+        }
+    }
+
+    fn word_elsewhere(&mut self, at: u64) -> Option<u32>
+        requires { IsMemory self.old }
+        ensures word { result ≡ word_at (mapped self.old) at }
+        ensures memory { IsMemory self.new }
+        ensures same { mapped self.new ≡ mapped self.old }
+    {
+        self.last_code = self.find(at)?;
+        match self.regions[self.last_code].number(at, 2) {
+            Some(word) => Some(word as u32),
             None => self.word_by_bytes(at),
         }
     }
 
+    /// The same where no region has them all.
     fn word_by_bytes(&mut self, at: u64) -> Option<u32>
         requires { IsMemory self.old }
         ensures word { result ≡ word_at (mapped self.old) at }
@@ -155,13 +165,134 @@ impl Memory {
         if !self.is_mapped(at, 4) {
             return None;
         }
-        let bytes = [
-            self.byte_or_zero(at),
-            self.byte_or_zero(at + 1),
-            self.byte_or_zero(at + 2),
-            self.byte_or_zero(at + 3),
-        ];
-        Some(u32::from_le_bytes(bytes))
+        let [a, b, c, d, ..] = self.eight_bytes(at, 4);
+        Some(u32::from_le_bytes([a, b, c, d]))
+    }
+
+    /// The number of 1, 2, 4 or 8 bytes at an address, as `size` counts, where they are all mapped.
+    #[inline(always)]
+    pub fn load(&mut self, at: u64, size: u8) -> Option<u64>
+        requires memory { IsMemory self.old }
+        requires size { size < 4 }
+        ensures number { result ≡ number_at (mapped self.old) at (2 ^ size) }
+        ensures memory { IsMemory self.new }
+        ensures same { mapped self.new ≡ mapped self.old }
+    {
+        match self.regions[self.last_data].number(at, size) {
+            Some(number) => Some(number),
+            None => self.load_elsewhere(at, size),
+        }
+    }
+
+    fn load_elsewhere(&mut self, at: u64, size: u8) -> Option<u64>
+        requires memory { IsMemory self.old }
+        requires size { size < 4 }
+        ensures number { result ≡ number_at (mapped self.old) at (2 ^ size) }
+        ensures memory { IsMemory self.new }
+        ensures same { mapped self.new ≡ mapped self.old }
+    {
+        self.last_data = self.find(at)?;
+        match self.regions[self.last_data].number(at, size) {
+            Some(number) => Some(number),
+            None => self.number_by_bytes(at, size),
+        }
+    }
+
+    /// The same where no region has them all.
+    fn number_by_bytes(&mut self, at: u64, size: u8) -> Option<u64>
+        requires memory { IsMemory self.old }
+        requires size { size < 4 }
+        ensures number { result ≡ number_at (mapped self.old) at (2 ^ size) }
+        ensures memory { IsMemory self.new }
+        ensures same { mapped self.new ≡ mapped self.old }
+    {
+        let count = byte_count(size);
+        if !self.is_mapped(at, count) {
+            return None;
+        }
+        let bytes = self.eight_bytes(at, count);
+        Some(u64::from_le_bytes(bytes))
+    }
+
+    /// So many mapped bytes from an address on, and zeros.
+    fn eight_bytes(&mut self, at: u64, count: u64) -> [u8; 8]
+        requires memory { IsMemory self.old }
+        requires count { count ≤ 8 }
+        requires fits { at + count ≤ 2 ^ 64 }
+        ensures bytes { result ≡ bytes_from (mapped self.old) at count ++ replicate (8 - count) 0 }
+        ensures memory { IsMemory self.new }
+        ensures same { mapped self.new ≡ mapped self.old }
+    {
+        let mut bytes = [0; 8];
+        for i in 0..count {
+            bytes[i as usize] = self.byte_or_zero(at + i);
+        }
+        bytes
+    }
+
+    /// Puts the low 1, 2, 4 or 8 bytes of a number at an address, as `size` counts, where they are all mapped; else nothing changes.
+    #[inline(always)]
+    pub fn store(&mut self, at: u64, size: u8, number: u64) -> bool
+        requires memory { IsMemory self.old }
+        requires size { size < 4 }
+        ensures mapped { result ≡ is_mapped (mapped self.old) at (2 ^ size) }
+        ensures bytes { mapped self.new ≡ (if result then with_bytes (mapped self.old) at (bytes_of (2 ^ size) number) else mapped self.old) }
+        ensures memory { IsMemory self.new }
+    {
+        let bytes = number.to_le_bytes();
+        match size {
+            0 => self.store_bytes(at, &bytes[..1]),
+            1 => self.store_bytes(at, &bytes[..2]),
+            2 => self.store_bytes(at, &bytes[..4]),
+            _ => self.store_bytes(at, &bytes),
+        }
+    }
+
+    #[inline(always)]
+    fn store_bytes(&mut self, at: u64, bytes: &[u8]) -> bool
+        requires memory { IsMemory self.old }
+        requires some { 0 < length bytes.now }
+        ensures mapped { result ≡ is_mapped (mapped self.old) at (length bytes.now) }
+        ensures bytes { mapped self.new ≡ (if result then with_bytes (mapped self.old) at bytes.now else mapped self.old) }
+        ensures memory { IsMemory self.new }
+    {
+        if self.put_in(self.last_data, at, bytes) {
+            return true;
+        }
+        self.store_elsewhere(at, bytes)
+    }
+
+    fn store_elsewhere(&mut self, at: u64, bytes: &[u8]) -> bool
+        requires memory { IsMemory self.old }
+        requires some { 0 < length bytes.now }
+        ensures mapped { result ≡ is_mapped (mapped self.old) at (length bytes.now) }
+        ensures bytes { mapped self.new ≡ (if result then with_bytes (mapped self.old) at bytes.now else mapped self.old) }
+        ensures memory { IsMemory self.new }
+    {
+        let Some(index) = self.find(at) else {
+            return false;
+        };
+        self.last_data = index;
+        if self.put_in(index, at, bytes) {
+            return true;
+        }
+        if !self.is_mapped(at, bytes.len() as u64) {
+            return false;
+        }
+        self.put(at, bytes);
+        true
+    }
+
+    /// Puts bytes at addresses from one on, where a region has them all; else nothing changes.
+    #[inline(always)]
+    fn put_in(&mut self, index: usize, at: u64, bytes: &[u8]) -> bool
+        requires memory { IsMemory self.old }
+        requires index { index < vec_len self.old.regions }
+        ensures mapped { IsTrue result → IsTrue (is_mapped (mapped self.old) at (length bytes.now)) }
+        ensures bytes { mapped self.new ≡ (if result then with_bytes (mapped self.old) at bytes.now else mapped self.old) }
+        ensures memory { IsMemory self.new }
+    {
+        self.regions[index].put(at, bytes)
     }
 
     /// Whether each of so many bytes from an address on is mapped.

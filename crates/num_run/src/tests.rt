@@ -1,3 +1,10 @@
+mod accesses;
+mod arithmetic;
+mod branches;
+mod case;
+mod logic;
+mod sources;
+
 use super::*;
 use gr_base::Bytes;
 use link_image::{Image, read_image};
@@ -21,7 +28,7 @@ struct Row {
     output: &'static [u8],
 }
 
-const ROWS: [Row; 21] = [
+const ROWS: [Row; 22] = [
     // movz x0, #3; movz x8, #93; svc #0
     Row {
         words: &[0xd2800060, 0xd2800ba8, 0xd4000001],
@@ -208,6 +215,15 @@ const ROWS: [Row; 21] = [
         may: 9,
         steps: 4,
         end: RunEnd::Exit(0xab),
+        output: b"",
+    },
+    // movz x0, #5; udiv x0, x0, x1; exit
+    Row {
+        words: &[0xd28000a0, 0x9ac10800, 0xd2800ba8, 0xd4000001],
+        input: b"",
+        may: 9,
+        steps: 4,
+        end: RunEnd::Exit(0),
         output: b"",
     },
 ];

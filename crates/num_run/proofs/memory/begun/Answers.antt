@@ -1,7 +1,7 @@
 use Rattle.std.proofs.Common.{leb, rules}
 use Rattle.std.proofs.lemmas.Bool.{leb-true, leb-false}
 use Rattle.std.proofs.lemmas.List.Sorted.{IsPartitionPoint-from_clause, IsPartitionedBy-leb}
-use Rattle.num_run.specs.declared.memory.Region.{Region}
+use Rattle.num_run.specs.declared.region.Region.{Region}
 use Rattle.num_run.proofs.Lookups.{starts_rise}
 use Rattle.num_run.proofs.memory.begun.Goals as goal
 

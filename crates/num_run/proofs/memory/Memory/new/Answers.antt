@@ -11,7 +11,7 @@ returns-clause-memory c =
     let bound = rw c.deref.ensures.value at c.begun-index.ensures.bound in
     let point = rw c.deref.ensures.value at c.begun-index.ensures.point in
     let ascend = stack_ascends c.args.image.now c.in_ok-regions.regions.items c.requires same c.begun-index.result _ bound point refl (c.in_ok-vec.ensures.items_if_clones_equal (λ y h. h)) in
-    record { regions = rw c.in_ok-insert.ensures.items ascend; last = omega (arith, c.in_ok-insert.ensures.len, c.insert.new.self.ok.0) }
+    record { regions = rw c.in_ok-insert.ensures.items ascend; last_code = omega (arith, c.in_ok-insert.ensures.len, c.insert.new.self.ok.0); last_data = omega (arith, c.in_ok-insert.ensures.len, c.insert.new.self.ok.0) }
 
 pub returns-clause-bytes : goal.returns-clause-bytes
 returns-clause-bytes c =

@@ -1,0 +1,14 @@
+use Rattle.std.proofs.Common.{◌≡◌, ℕ, ◌+◌, ◌*◌, ◌%◌, ◌^◌, sym, ap, ◌∙◌}
+use Rattle.a64_inst.specs.Domain.{then_do}
+use Rattle.num_run.specs.Access.{accessed, advanced}
+use Rattle.num_run.specs.Runner.{machine}
+use Rattle.num_run.proofs.Accesses.{comes_as, scaled_is, scaled_sum}
+use Rattle.num_run.proofs.runner.Runner.scaled.Goals as goal
+
+pub returns-clause-comes : goal.returns-clause-comes
+returns-clause-comes c =
+    let m = machine c.args.self.now in
+    let a = c.args in
+    let at : (c.register.result + c.from.result * c.byte_count.result) % 2 ^ 64 ≡ scaled_sum a.size a.imm12 a.rn m = cc (c.register.ensures, c.from.ensures, c.byte_count.ensures.count) in
+    comes_as _ _ c.access_only.result m (machine c.access_only.new.self)
+    (scaled_is a.size a.opc a.imm12 a.rn a.rt m ∙ ap (λ (x : ℕ). then_do (accessed a.size a.opc a.rt x m) advanced) (sym at)) c.access_only.ensures.comes
