@@ -58,6 +58,7 @@ impl<'a> Cursor<'a> {
 
         // After a fault it answers the same fault again.
         ensures err { IfErr result (wire_fault self.old.bytes self.old.place) }
+        ensures here { IfErr result (λ fault. fault.place ≡ self.old.place) }
         ensures no_list { OnErr result ((list : List Record) → records self.old.bytes self.old.place list → ⊥) }
         ensures still { OnErr result (self.new ≡ self.old) }
     {

@@ -12,6 +12,7 @@ mod records;
 pub use cursor::Cursor;
 pub use fault::{WireFault, WireReason};
 pub use put::{put_bytes, put_key, put_varint};
+pub use reading::read_varint;
 pub use records::{Load, Record, Span};
 
 #[cfg(test)]

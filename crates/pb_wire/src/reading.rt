@@ -9,8 +9,8 @@ use crate::records::{Load, Record, Span};
 /// The index of the last byte that a varint may have.
 const LAST: usize = 9;
 
-/// The varint at the front, and how many bytes it has.
-fn read_varint(bytes: &[u8]) -> Result<(u64, usize), WireReason>
+/// The varint at the front, and how many bytes it has. It takes no memory.
+pub fn read_varint(bytes: &[u8]) -> Result<(u64, usize), WireReason>
     ensures value { result ≡ varint_of bytes.now }
     ensures within { IfOk result (λ found. found.1 ≤ length bytes.now) }
 {

@@ -1,0 +1,5 @@
+pub mod Typed
+pub mod Ordered
+pub mod Schema
+pub mod Values
+pub mod Views

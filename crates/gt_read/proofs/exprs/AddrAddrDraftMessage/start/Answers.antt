@@ -1,0 +1,10 @@
+use Rattle.std.proofs.Common.{refl}
+use Rattle.gt_model.specs.Schema.{addr_addr_rows}
+use Rattle.gt_read.specs.DraftViews.{addr_addr_draft}
+use Rattle.gt_read.specs.Drafts.{drafted}
+use Rattle.gt_read.specs.Meaning.{meaning}
+use Rattle.gt_read.proofs.exprs.AddrAddrDraftMessage.start.Goals as goal
+
+pub returns : goal.returns
+unfolding drafted meaning addr_addr_rows addr_addr_draft
+returns c = rw (c.missing.ensures, c.missing-2.ensures) refl

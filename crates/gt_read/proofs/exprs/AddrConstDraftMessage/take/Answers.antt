@@ -1,0 +1,25 @@
+use Rattle.std.proofs.Common.{◌≡◌, false, eqb, refl, arith}
+use Rattle.std.proofs.lemmas.Bool.{ne_eqb}
+use Rattle.gt_model.specs.Schema.{addr_const_rows}
+use Rattle.gt_read.specs.DraftViews.{addr_const_draft}
+use Rattle.gt_read.specs.Drafts.{step}
+use Rattle.gt_read.specs.Faults.{piece_faults}
+use Rattle.gt_read.specs.Reading.{carried}
+use Rattle.gt_read.proofs.DraftLemmas.{silent}
+use Rattle.gt_read.proofs.exprs.AddrConstDraftMessage.take.Goals as goal
+
+pub returns-in-1 : goal.returns-in-1
+unfolding step piece_faults addr_const_rows addr_const_draft
+returns-in-1 c = rw c.in-1.is (rw c.take_signed.ensures refl, silent c.args.part.now.place (carried c.args.part.now.carried))
+
+pub returns-in-2 : goal.returns-in-2
+unfolding step piece_faults addr_const_rows addr_const_draft
+returns-in-2 c = rw c.in-2.is (rw c.take.ensures.optional refl, silent c.args.part.now.place (carried c.args.part.now.carried))
+
+pub returns-in_default : goal.returns-in_default
+unfolding step piece_faults addr_const_rows addr_const_draft
+returns-in_default c =
+    let n = c.args.part.now.number in
+    let n1 : eqb n 1 ≡ false = ne_eqb n 1 (λ e. omega arith) in
+    let n2 : eqb n 2 ≡ false = ne_eqb n 2 (λ e. omega arith) in
+    rw (n1, n2) (refl, refl)

@@ -1,0 +1,128 @@
+use Rattle.std.proofs.Common.{◌≡◌, false, eqb, refl, arith}
+use Rattle.std.proofs.lemmas.Bool.{ne_eqb}
+use Rattle.std.proofs.lemmas.List.{append-nil}
+use Rattle.std.proofs.lemmas.Result.{err_from_is_err_and}
+use Rattle.gt_model.specs.Schema.{module_rows, proxy_rows, section_rows, symbol_rows}
+use Rattle.gt_model.specs.Views.{symbol_value, proxy_value, section_value}
+use Rattle.gt_read.specs.DraftViews.{symbol_draft, proxy_draft, section_draft, module_draft}
+use Rattle.gt_read.specs.Drafts.{step}
+use Rattle.gt_read.specs.Faults.{piece_faults}
+use Rattle.gt_read.specs.Reading.{carried}
+use Rattle.gt_read.proofs.DraftLemmas.{silent, adds_view}
+use Rattle.gt_read.proofs.modules.ModuleDraftMessage.take.Goals as goal
+
+pub returns-in-1 : goal.returns-in-1
+unfolding step piece_faults module_rows module_draft
+returns-in-1 c = rw c.in-1.is (rw c.take.ensures.id refl, silent c.args.part.now.place (carried c.args.part.now.carried))
+
+pub returns-in_ok-take_text-in-2 : goal.returns-in_ok-take_text-in-2
+unfolding step piece_faults module_rows module_draft
+returns-in_ok-take_text-in-2 c =
+    rw c.in-2.is (rw c.in_ok-take_text-in-2.ensures.0 refl, rw c.in_ok-take_text-in-2.ensures.1 refl)
+
+pub returns-in_err-take_text-in-2 : goal.returns-in_err-take_text-in-2
+unfolding step piece_faults module_rows module_draft
+returns-in_err-take_text-in-2 c =
+    let p = err_from_is_err_and c.from_residual.result c.from_residual.ensures.1 in
+    rw (p.1, p.2, c.in-2.is, append-nil) c.in_err-take_text-in-2.ensures
+
+pub returns-in-3 : goal.returns-in-3
+unfolding step piece_faults module_rows module_draft
+returns-in-3 c = rw c.in-3.is (rw c.take_unsigned.ensures refl, silent c.args.part.now.place (carried c.args.part.now.carried))
+
+pub returns-in-4 : goal.returns-in-4
+unfolding step piece_faults module_rows module_draft
+returns-in-4 c = rw c.in-4.is (rw c.take_signed.ensures refl, silent c.args.part.now.place (carried c.args.part.now.carried))
+
+pub returns-in-5 : goal.returns-in-5
+unfolding step piece_faults module_rows module_draft
+returns-in-5 c = rw c.in-5.is (rw c.take_signed32.ensures refl, silent c.args.part.now.place (carried c.args.part.now.carried))
+
+pub returns-in-6 : goal.returns-in-6
+unfolding step piece_faults module_rows module_draft
+returns-in-6 c = rw c.in-6.is (rw c.take_signed32-in-6.ensures refl, silent c.args.part.now.place (carried c.args.part.now.carried))
+
+pub returns-in_ok-take_text-in-7 : goal.returns-in_ok-take_text-in-7
+unfolding step piece_faults module_rows module_draft
+returns-in_ok-take_text-in-7 c =
+    rw c.in-7.is (rw c.in_ok-take_text-in-7.ensures.0 refl, rw c.in_ok-take_text-in-7.ensures.1 refl)
+
+pub returns-in_err-take_text-in-7 : goal.returns-in_err-take_text-in-7
+unfolding step piece_faults module_rows module_draft
+returns-in_err-take_text-in-7 c =
+    let p = err_from_is_err_and c.from_residual-in_err-take_text-in-7.result c.from_residual-in_err-take_text-in-7.ensures.1 in
+    rw (p.1, p.2, c.in-7.is, append-nil) c.in_err-take_text-in-7.ensures
+
+pub returns-in_ok-take_child-in-9 : goal.returns-in_ok-take_child-in-9
+unfolding step piece_faults module_rows module_draft
+returns-in_ok-take_child-in-9 c =
+    let e = adds_view symbol_rows symbol_draft symbol_value _ _ _ _ _ c.in_ok-take_child-in-9.ensures.0 in
+    rw c.in-9.is (rw e refl, rw c.in_ok-take_child-in-9.ensures.1 refl)
+
+pub returns-in_err-take_child-in-9 : goal.returns-in_err-take_child-in-9
+unfolding step piece_faults module_rows module_draft
+returns-in_err-take_child-in-9 c =
+    let p = err_from_is_err_and c.from_residual-in_err-take_child-in-9.result c.from_residual-in_err-take_child-in-9.ensures.1 in
+    rw (p.1, p.2, c.in-9.is, append-nil) c.in_err-take_child-in-9.ensures
+
+pub returns-in_ok-take_child-in-12 : goal.returns-in_ok-take_child-in-12
+unfolding step piece_faults module_rows module_draft
+returns-in_ok-take_child-in-12 c =
+    let e = adds_view section_rows section_draft section_value _ _ _ _ _ c.in_ok-take_child-in-12.ensures.0 in
+    rw c.in-12.is (rw e refl, rw c.in_ok-take_child-in-12.ensures.1 refl)
+
+pub returns-in_err-take_child-in-12 : goal.returns-in_err-take_child-in-12
+unfolding step piece_faults module_rows module_draft
+returns-in_err-take_child-in-12 c =
+    let p = err_from_is_err_and c.from_residual-in_err-take_child-in-12.result c.from_residual-in_err-take_child-in-12.ensures.1 in
+    rw (p.1, p.2, c.in-12.is, append-nil) c.in_err-take_child-in-12.ensures
+
+pub returns-in_ok-take_child-in-16 : goal.returns-in_ok-take_child-in-16
+unfolding step piece_faults module_rows module_draft
+returns-in_ok-take_child-in-16 c =
+    let e = adds_view proxy_rows proxy_draft proxy_value _ _ _ _ _ c.in_ok-take_child-in-16.ensures.0 in
+    rw c.in-16.is (rw e refl, rw c.in_ok-take_child-in-16.ensures.1 refl)
+
+pub returns-in_err-take_child-in-16 : goal.returns-in_err-take_child-in-16
+unfolding step piece_faults module_rows module_draft
+returns-in_err-take_child-in-16 c =
+    let p = err_from_is_err_and c.from_residual-in_err-take_child-in-16.result c.from_residual-in_err-take_child-in-16.ensures.1 in
+    rw (p.1, p.2, c.in-16.is, append-nil) c.in_err-take_child-in-16.ensures
+
+pub returns-in_ok-take_table-in-17 : goal.returns-in_ok-take_table-in-17
+unfolding step piece_faults module_rows module_draft
+returns-in_ok-take_table-in-17 c =
+    rw c.in-17.is (rw c.in_ok-take_table-in-17.ensures.0 refl, rw c.in_ok-take_table-in-17.ensures.1 refl)
+
+pub returns-in_err-take_table-in-17 : goal.returns-in_err-take_table-in-17
+unfolding step piece_faults module_rows module_draft
+returns-in_err-take_table-in-17 c =
+    let p = err_from_is_err_and c.from_residual-in_err-take_table-in-17.result c.from_residual-in_err-take_table-in-17.ensures.1 in
+    rw (p.1, p.2, c.in-17.is, append-nil) c.in_err-take_table-in-17.ensures
+
+pub returns-in-18 : goal.returns-in-18
+unfolding step piece_faults module_rows module_draft
+returns-in-18 c = rw c.in-18.is (rw c.take-in-18.ensures.optional refl, silent c.args.part.now.place (carried c.args.part.now.carried))
+
+pub returns-in-19 : goal.returns-in-19
+unfolding step piece_faults module_rows module_draft
+returns-in-19 c = rw c.in-19.is (rw c.take_signed32-in-19.ensures refl, silent c.args.part.now.place (carried c.args.part.now.carried))
+
+pub returns-in_default : goal.returns-in_default
+unfolding step piece_faults module_rows module_draft
+returns-in_default c =
+    let n = c.args.part.now.number in
+    let n1 : eqb n 1 ≡ false = ne_eqb n 1 (λ e. omega arith) in
+    let n2 : eqb n 2 ≡ false = ne_eqb n 2 (λ e. omega arith) in
+    let n3 : eqb n 3 ≡ false = ne_eqb n 3 (λ e. omega arith) in
+    let n4 : eqb n 4 ≡ false = ne_eqb n 4 (λ e. omega arith) in
+    let n5 : eqb n 5 ≡ false = ne_eqb n 5 (λ e. omega arith) in
+    let n6 : eqb n 6 ≡ false = ne_eqb n 6 (λ e. omega arith) in
+    let n7 : eqb n 7 ≡ false = ne_eqb n 7 (λ e. omega arith) in
+    let n9 : eqb n 9 ≡ false = ne_eqb n 9 (λ e. omega arith) in
+    let n12 : eqb n 12 ≡ false = ne_eqb n 12 (λ e. omega arith) in
+    let n16 : eqb n 16 ≡ false = ne_eqb n 16 (λ e. omega arith) in
+    let n17 : eqb n 17 ≡ false = ne_eqb n 17 (λ e. omega arith) in
+    let n18 : eqb n 18 ≡ false = ne_eqb n 18 (λ e. omega arith) in
+    let n19 : eqb n 19 ≡ false = ne_eqb n 19 (λ e. omega arith) in
+    rw (n1, n2, n3, n4, n5, n6, n7, n9, n12, n16, n17, n18, n19) (refl, refl)

@@ -1,0 +1,40 @@
+use Rattle.std.proofs.Common.{◌≡◌, false, eqb, refl, arith}
+use Rattle.std.proofs.lemmas.Bool.{ne_eqb}
+use Rattle.std.proofs.lemmas.List.{append-nil}
+use Rattle.std.proofs.lemmas.Result.{err_from_is_err_and}
+use Rattle.gt_model.specs.Schema.{table_rows}
+use Rattle.gt_read.specs.DraftViews.{table_draft, table_entry_draft}
+use Rattle.gt_read.specs.Drafts.{step}
+use Rattle.gt_read.proofs.DraftLemmas.{enters_view}
+use Rattle.gt_read.proofs.tables.TableEntryDraftMessage.take.Goals as goal
+
+pub returns-in_ok-take_text-in-1 : goal.returns-in_ok-take_text-in-1
+unfolding step table_entry_draft
+returns-in_ok-take_text-in-1 c =
+    rw c.in-1.is (rw c.in_ok-take_text-in-1.ensures.0 refl, rw c.in_ok-take_text-in-1.ensures.1 refl)
+
+pub returns-in_err-take_text-in-1 : goal.returns-in_err-take_text-in-1
+unfolding step table_entry_draft
+returns-in_err-take_text-in-1 c =
+    let p = err_from_is_err_and c.from_residual.result c.from_residual.ensures.1 in
+    rw (p.1, p.2, c.in-1.is, append-nil) c.in_err-take_text-in-1.ensures
+
+pub returns-in_ok-take_message-in-2 : goal.returns-in_ok-take_message-in-2
+unfolding step table_entry_draft
+returns-in_ok-take_message-in-2 c =
+    let e = enters_view table_rows table_draft _ _ _ c.in_ok-take_message-in-2.ensures.0 in
+    rw c.in-2.is (rw e refl, rw c.in_ok-take_message-in-2.ensures.1 refl)
+
+pub returns-in_err-take_message-in-2 : goal.returns-in_err-take_message-in-2
+unfolding step table_entry_draft
+returns-in_err-take_message-in-2 c =
+    let p = err_from_is_err_and c.from_residual-in_err-take_message-in-2.result c.from_residual-in_err-take_message-in-2.ensures.1 in
+    rw (p.1, p.2, c.in-2.is) c.in_err-take_message-in-2.ensures
+
+pub returns-in_default : goal.returns-in_default
+unfolding step table_entry_draft
+returns-in_default c =
+    let n = c.args.part.now.number in
+    let n1 : eqb n 1 ≡ false = ne_eqb n 1 (λ e. omega arith) in
+    let n2 : eqb n 2 ≡ false = ne_eqb n 2 (λ e. omega arith) in
+    rw (n1, n2) (refl, refl)

@@ -1,0 +1,12 @@
+pub mod Pieces
+pub mod Kinds
+pub mod Meaning
+pub mod Faults
+pub mod Identifiers
+pub mod File
+pub mod Bodies
+pub mod Drafts
+pub mod Reading
+pub mod Entries
+pub mod DraftViews
+pub mod FaultText

@@ -1,0 +1,227 @@
+ghost use Rattle.std.specs.Prelude.{◌≡◌, IfOk};
+ghost use Rattle.gt_model.specs.Schema.{code_rows, data_rows, block_rows};
+ghost use Rattle.gt_model.specs.Views.{block_value};
+ghost use Rattle.gt_read.specs.DraftViews.{code_draft, data_draft, block_draft, code_parts, data_parts, code_of, data_of, FinishesBody, TakesCode, TakesData};
+ghost use Rattle.gt_read.specs.Faults.{piece_faults, message_faults, in_run};
+ghost use Rattle.gt_read.specs.Kinds.{run_of};
+ghost use Rattle.gt_read.specs.Reading.{piece, Answers, Starts, Steps, Finishes};
+
+use crate::block_drafts::{BlockDraft, BodyDraft, CodeDraft, CodeParts, DataDraft, DataParts};
+use crate::children::enter;
+use crate::fault::FormatFault;
+use crate::ids::{IdFault, Identifier};
+use crate::message::Message;
+use crate::pieces::{Carried, Piece};
+use crate::slots::take_unsigned;
+use gr_base::End;
+use gt_model::{Block, Body};
+use std::alloc::{AllocError, Global};
+use std::mem;
+
+fn into_code(body: BodyDraft) -> Option<CodeDraft>
+    ensures { result ≡ code_of body }
+{
+    match body {
+        BodyDraft::Code(draft) => Some(draft),
+        BodyDraft::Bare | BodyDraft::Data(_) => None,
+    }
+}
+
+fn into_data(body: BodyDraft) -> Option<DataDraft>
+    ensures { result ≡ data_of body }
+{
+    match body {
+        BodyDraft::Data(draft) => Some(draft),
+        BodyDraft::Bare | BodyDraft::Code(_) => None,
+    }
+}
+
+fn take_code(alloc: Global, body: &mut BodyDraft, part: &Piece<'_>) -> Result<(), End<FormatFault>>
+    ensures { Answers result (in_run (λ place start bytes. message_faults (piece_faults code_rows) bytes start) part.now.place (piece part.now).carried)
+        (λ _. TakesCode body.old (run_of (piece part.now)) body.new) }
+{
+    match &part.carried {
+        Carried::Number(_) => Ok(()),
+        Carried::Fixed => Ok(()),
+        Carried::Bytes(run) => {
+            let old = into_code(mem::replace(body, BodyDraft::Bare));
+            let draft = enter(alloc, old, part.place, run)?;
+            *body = BodyDraft::Code(draft);
+            Ok(())
+        }
+    }
+}
+
+fn take_data(alloc: Global, body: &mut BodyDraft, part: &Piece<'_>) -> Result<(), End<FormatFault>>
+    ensures { Answers result (in_run (λ place start bytes. message_faults (piece_faults data_rows) bytes start) part.now.place (piece part.now).carried)
+        (λ _. TakesData body.old (run_of (piece part.now)) body.new) }
+{
+    match &part.carried {
+        Carried::Number(_) => Ok(()),
+        Carried::Fixed => Ok(()),
+        Carried::Bytes(run) => {
+            let old = into_data(mem::replace(body, BodyDraft::Bare));
+            let draft = enter(alloc, old, part.place, run)?;
+            *body = BodyDraft::Data(draft);
+            Ok(())
+        }
+    }
+}
+
+fn finish_body(alloc: Global, body: BodyDraft) -> Result<(Body, Option<IdFault>), AllocError>
+    ensures { IfOk result (λ made. FinishesBody body made.0 made.1) }
+{
+    match body {
+        BodyDraft::Bare => Ok((Body::Bare, None)),
+        BodyDraft::Code(draft) => {
+            let (made, fault) = draft.finish(alloc)?;
+            let body = Body::Code {
+                uuid: made.uuid,
+                size: made.size,
+                decode_mode: made.decode_mode,
+            };
+            Ok((body, fault))
+        }
+        BodyDraft::Data(draft) => {
+            let (made, fault) = draft.finish(alloc)?;
+            let body = Body::Data {
+                uuid: made.uuid,
+                size: made.size,
+            };
+            Ok((body, fault))
+        }
+    }
+}
+
+impl Message for CodeDraft {
+    type Made = CodeParts;
+
+    ghost starts = { Starts code_rows code_draft };
+
+    ghost steps = { Steps code_rows code_draft };
+
+    ghost faults = { piece_faults code_rows };
+
+    ghost finishes = { Finishes code_rows code_draft code_parts };
+
+    fn start(_: Global, place: u64) -> CodeDraft {
+        CodeDraft {
+            uuid: Identifier::missing(place),
+            size: 0,
+            decode_mode: 0,
+        }
+    }
+
+    fn take(&mut self, _: Global, part: &Piece<'_>) -> Result<(), End<FormatFault>> {
+        match part.number {
+            1 => {
+                self.uuid.take(part);
+                Ok(())
+            }
+            3 => {
+                take_unsigned(&mut self.size, part);
+                Ok(())
+            }
+            4 => {
+                take_unsigned(&mut self.decode_mode, part);
+                Ok(())
+            }
+            _ => Ok(()),
+        }
+    }
+
+    fn finish(self, _: Global) -> Result<(CodeParts, Option<IdFault>), AllocError> {
+        let fault = self.uuid.fault();
+        let made = CodeParts {
+            uuid: self.uuid.id,
+            size: self.size,
+            decode_mode: self.decode_mode,
+        };
+        Ok((made, fault))
+    }
+}
+
+impl Message for DataDraft {
+    type Made = DataParts;
+
+    ghost starts = { Starts data_rows data_draft };
+
+    ghost steps = { Steps data_rows data_draft };
+
+    ghost faults = { piece_faults data_rows };
+
+    ghost finishes = { Finishes data_rows data_draft data_parts };
+
+    fn start(_: Global, place: u64) -> DataDraft {
+        DataDraft {
+            uuid: Identifier::missing(place),
+            size: 0,
+        }
+    }
+
+    fn take(&mut self, _: Global, part: &Piece<'_>) -> Result<(), End<FormatFault>> {
+        match part.number {
+            1 => {
+                self.uuid.take(part);
+                Ok(())
+            }
+            3 => {
+                take_unsigned(&mut self.size, part);
+                Ok(())
+            }
+            _ => Ok(()),
+        }
+    }
+
+    fn finish(self, _: Global) -> Result<(DataParts, Option<IdFault>), AllocError> {
+        let fault = self.uuid.fault();
+        let made = DataParts {
+            uuid: self.uuid.id,
+            size: self.size,
+        };
+        Ok((made, fault))
+    }
+}
+
+impl Message for BlockDraft {
+    type Made = Block;
+
+    ghost starts = { Starts block_rows block_draft };
+
+    ghost steps = { Steps block_rows block_draft };
+
+    ghost faults = { piece_faults block_rows };
+
+    ghost finishes = { Finishes block_rows block_draft block_value };
+
+    fn start(_: Global, _: u64) -> BlockDraft {
+        BlockDraft {
+            offset: 0,
+            body: BodyDraft::Bare,
+        }
+    }
+
+    fn take(&mut self, alloc: Global, part: &Piece<'_>) -> Result<(), End<FormatFault>> {
+        match part.number {
+            1 => {
+                take_unsigned(&mut self.offset, part);
+                Ok(())
+            }
+            2 => {
+                take_code(alloc, &mut self.body, part)?;
+                Ok(())
+            }
+            3 => {
+                take_data(alloc, &mut self.body, part)?;
+                Ok(())
+            }
+            _ => Ok(()),
+        }
+    }
+
+    fn finish(self, alloc: Global) -> Result<(Block, Option<IdFault>), AllocError> {
+        let BlockDraft { offset, body } = self;
+        let (body, fault) = finish_body(alloc, body)?;
+        Ok((Block { offset, body }, fault))
+    }
+}

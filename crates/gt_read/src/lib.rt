@@ -1,0 +1,31 @@
+//! Reads GTIRB files.
+#![tactic(auto)]
+
+mod block_drafts;
+mod blocks;
+mod carry;
+mod children;
+mod edge_drafts;
+mod edges;
+mod expr_drafts;
+mod exprs;
+mod fault;
+mod file;
+mod ids;
+mod intervals;
+mod irs;
+mod message;
+mod module_drafts;
+mod modules;
+mod names;
+mod packed;
+mod pieces;
+mod slots;
+mod symbols;
+mod tables;
+
+pub use fault::FormatFault;
+pub use file::read_file;
+
+#[cfg(test)]
+mod tests;

@@ -1,0 +1,17 @@
+pub mod Maps
+pub mod Orders
+pub mod Walking
+pub mod KindsBack
+pub mod PackedBack
+pub mod Sorted
+pub mod Foreign
+pub mod Each
+pub mod Backs
+pub mod PlainFields
+pub mod MessageFields
+pub mod RepeatedFields
+pub mod EntryFields
+pub mod ReadsBack
+pub mod SpellableIr
+pub mod CanonicalFile
+pub mod Typing
