@@ -2,7 +2,7 @@
 use Rattle.std.proofs.Common.{◌≡◌, ◌⊎◌, List, ℕ, Bool, IsTrue, Option, None, Some, refl, inl, inr, sym}
 use Rattle.gr_base.specs.Desk.{Files, Rose}
 use Rattle.gt_front.specs.declared.answer.Answer.{Answer}
-use Rattle.gt_front.specs.declared.answer.Answer.TheVariants.{Done, Usage, ReadFault, WriteFault, Memory, TooLarge, Format, NotYet, Image}
+use Rattle.gt_front.specs.declared.answer.Answer.TheVariants.{Done, Usage, ReadFault, WriteFault, Memory, TooLarge, Format, Image}
 use Rattle.gt_front.specs.Inputs.{InputFile, AllReadable}
 use Rattle.gt_front.specs.Causes.{ReadFaultCause, TooLargeCause, WriteFaultCause, IsOwn, IsComplete, Outcomes, Settles}
 use Rattle.gt_front.proofs.FirstBad.{missing_unreadable, large_unreadable}
@@ -36,7 +36,6 @@ module _ (inputs : List InputFile) (own : Outcomes) (held : Files) (steady : Boo
   settled answer (Done t) s a b c = inl (sym s)
   settled answer (Usage i) s a b c = inl (sym s)
   settled answer (Format f) s a b c = inl (sym s)
-  settled answer NotYet s a b c = inl (sym s)
   settled answer (Image f) s a b c = inl (sym s)
 
 pub is_complete : (inputs : List InputFile) (own : Outcomes) (files : Option Files) (steady : Bool) (rb rn tb tn wb wn : ℕ) (result : Answer)

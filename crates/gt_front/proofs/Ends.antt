@@ -3,7 +3,7 @@ use Rattle.std.proofs.Common.{◌+◌, ◌<◌, ◌≡◌, ◌⊎◌, List, [], 
 use Rattle.gr_base.specs.Desk.{Files, Told, ToldBoth, SameFiles, Leaves, LeavesPart, Rose, Took}
 use Rattle.gt_front.specs.declared.answer.Role.{Role}
 use Rattle.gt_front.specs.declared.answer.Answer.{Answer}
-use Rattle.gt_front.specs.declared.answer.Answer.TheVariants.{Done, Usage, ReadFault, WriteFault, Memory, TooLarge, Format, NotYet, Image}
+use Rattle.gt_front.specs.declared.answer.Answer.TheVariants.{Done, Usage, ReadFault, WriteFault, Memory, TooLarge, Format, Image}
 use Rattle.gt_front.specs.Inputs.{InputFile, IsReadable, IsTooLarge, AllReadable, Reaches, Names}
 use Rattle.gt_front.specs.Causes.{ReadFaultCause, TooLargeCause, WriteFaultCause, IsOwn, Kept, Outcomes}
 use Rattle.gt_front.specs.Reads.{Counts, Refuses, Writes}
@@ -28,7 +28,6 @@ NotRefused (Usage index) = Unit {0}
 NotRefused WriteFault = Unit {0}
 NotRefused Memory = Unit {0}
 NotRefused (Format fault) = Unit {0}
-NotRefused NotYet = Unit {0}
 NotRefused (Image fault) = Unit {0}
 
 -- an input that can't be read isn't reached where all can be read
@@ -114,7 +113,6 @@ module _ (own : Outcomes) (one : (held : Files) (a b : Answer) (out1 out2 : List
     finished_not_refused name steady before now old new (ReadFault r) w = w
     finished_not_refused name steady before now old new (TooLarge r) w = w
     finished_not_refused name steady before now old new (Format f) w = tt
-    finished_not_refused name steady before now old new NotYet w = tt
     finished_not_refused name steady before now old new (Image f) w = tt
 
     pub finished_write_fault : (name : List ℕ) (steady mid_steady : Bool) (before mid now : ℕ) (old new : Option Files) (answer : Answer)
@@ -133,7 +131,6 @@ module _ (own : Outcomes) (one : (held : Files) (a b : Answer) (out1 out2 : List
     finished_write_fault name steady mid_steady before mid now old new (ReadFault r) es h w = absurd w
     finished_write_fault name steady mid_steady before mid now old new (TooLarge r) es h w = absurd w
     finished_write_fault name steady mid_steady before mid now old new (Format f) es h w = absurd w
-    finished_write_fault name steady mid_steady before mid now old new NotYet es h w = absurd w
     finished_write_fault name steady mid_steady before mid now old new (Image f) es h w = absurd w
 
     pub finished_own : (name : List ℕ) (steady : Bool) (before now : ℕ) (old new : Option Files) (answer : Answer)
@@ -154,7 +151,6 @@ module _ (own : Outcomes) (one : (held : Files) (a b : Answer) (out1 out2 : List
     finished_own name steady before now old new (ReadFault r) w = absurd w
     finished_own name steady before now old new (TooLarge r) w = absurd w
     finished_own name steady before now old new (Format f) w = absurd w
-    finished_own name steady before now old new NotYet w = absurd w
     finished_own name steady before now old new (Image f) w = absurd w
 
     pub finished_kept : (name : List ℕ) (steady : Bool) (before now : ℕ) (mid new : Option Files) (answer : Answer)
@@ -172,7 +168,6 @@ module _ (own : Outcomes) (one : (held : Files) (a b : Answer) (out1 out2 : List
     finished_kept name steady before now mid new (ReadFault r) same w = absurd w
     finished_kept name steady before now mid new (TooLarge r) same w = absurd w
     finished_kept name steady before now mid new (Format f) same w = absurd w
-    finished_kept name steady before now mid new NotYet same w = absurd w
     finished_kept name steady before now mid new (Image f) same w = absurd w
 
 -- the input at which reading stopped is the first one that can't be read
@@ -230,7 +225,6 @@ module _ (inputs before after : List InputFile) (role : Role) (name : List ℕ) 
   refused_read_fault counts (Usage i) all w = absurd w
   refused_read_fault counts WriteFault all w = absurd w
   refused_read_fault counts (Format f) all w = absurd w
-  refused_read_fault counts NotYet all w = absurd w
   refused_read_fault counts (Image f) all w = absurd w
 
   pub refused_too_large : (counts : Counts) (answer : Answer) → Told files (AllReadable before) → Refuses role name files steady counts answer
@@ -264,7 +258,6 @@ module _ (inputs before after : List InputFile) (role : Role) (name : List ℕ) 
   refused_too_large counts (Usage i) all w = absurd w
   refused_too_large counts WriteFault all w = absurd w
   refused_too_large counts (Format f) all w = absurd w
-  refused_too_large counts NotYet all w = absurd w
   refused_too_large counts (Image f) all w = absurd w
 
 -- a fact about any files, where they are told
@@ -317,7 +310,6 @@ refused_back o m role name steady mid c d (Done t) same es h e f g w = absurd w
 refused_back o m role name steady mid c d (Usage i) same es h e f g w = absurd w
 refused_back o m role name steady mid c d WriteFault same es h e f g w = absurd w
 refused_back o m role name steady mid c d (Format x) same es h e f g w = absurd w
-refused_back o m role name steady mid c d NotYet same es h e f g w = absurd w
 refused_back o m role name steady mid c d (Image x) same es h e f g w = absurd w
 
 -- where a job gave an answer of the bytes that it read, or want of memory, it is the job's own
@@ -333,7 +325,5 @@ gave_own own one files (Usage i) quiet (inl e) = cc
 gave_own own one files (Usage i) quiet (inr x) = record { truth = told_map files _ _ (λ held y. tt) x; settles = told_map files _ _ (λ held y a o z. one held a (Usage i) o [] z y) x }
 gave_own own one files (Format f) quiet (inl e) = cc
 gave_own own one files (Format f) quiet (inr x) = record { truth = told_map files _ _ (λ held y. ([], y)) x; settles = told_map files _ _ (λ held y a o z. one held a (Format f) o [] z y) x }
-gave_own own one files NotYet quiet (inl e) = cc
-gave_own own one files NotYet quiet (inr x) = record { truth = told_map files _ _ (λ held y. ([], y)) x; settles = told_map files _ _ (λ held y a o z. one held a NotYet o [] z y) x }
 gave_own own one files (Image f) quiet (inl e) = cc
 gave_own own one files (Image f) quiet (inr x) = record { truth = told_map files _ _ (λ held y. ([], y)) x; settles = told_map files _ _ (λ held y a o z. one held a (Image f) o [] z y) x }

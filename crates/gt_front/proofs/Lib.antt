@@ -1,9 +1,8 @@
 pub mod FirstBad
 pub mod Ends
-pub mod ThinLaws
+pub mod Refusals
 pub mod RecodeLaws
 pub mod Complete
 pub mod Served
-pub mod ThinSpelling
 pub mod RunLaws
 pub mod Numbers

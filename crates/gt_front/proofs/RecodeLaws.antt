@@ -1,42 +1,46 @@
 -- What `recode` gives for some bytes is one answer.
 use Rattle.std.proofs.Common.{◌≡◌, ◌⊎◌, List, [], ℕ, Option, Some, refl, inl, inr, sym, ◌∙◌, ap, subst}
 use Rattle.gr_base.specs.Desk.{Files, Told}
+use Rattle.gr_base.specs.declared.end.End.{End}
+use Rattle.gr_base.specs.declared.end.End.TheVariants as endings
+use Rattle.gt_model.specs.declared.ir.Ir.{Ir}
+use Rattle.gt_read.specs.declared.fault.FormatFault.{FormatFault}
+use Rattle.gt_read.specs.File.{file, format_fault}
+use Rattle.gt_read.specs.Reading.{IsFault}
+use Rattle.gt_read.proofs.OneMeaning.{one_meaning, fault_excludes}
+use Rattle.gt_write.specs.Canonical.{canonical}
 use Rattle.gt_front.specs.declared.answer.Answer.{Answer}
-use Rattle.gt_front.specs.declared.answer.Answer.TheVariants.{Done, Usage, ReadFault, WriteFault, Memory, TooLarge, Format, NotYet, Image}
-use Rattle.gt_front.specs.declared.format_fault.FormatFault.TheVariants.{Version}
-use Rattle.gt_front.specs.Recode.{RecodeGives, RecodeOf, done_text}
+use Rattle.gt_front.specs.declared.answer.Answer.TheVariants.{Done, Usage, ReadFault, WriteFault, Memory, TooLarge, Format, Image}
+use Rattle.gt_front.specs.Recode.{RecodeGives, RecodeRefuses, RecodeOf, Means, done_text, format_answer}
 use Rattle.gt_front.specs.Causes.{IsOwn}
-use Rattle.gt_front.proofs.Ends.{told_map, gave_own, NotRefused}
-use Rattle.gt_front.proofs.ThinLaws.{one_uuid, one_byte, one_version}
+use Rattle.gt_front.proofs.Ends.{told_map, gave_own}
+use Rattle.gt_front.proofs.Refusals.{IsRefusal, refusal_quiet}
+
+-- a file means one IR
+pub means : (bytes : List ℕ) (ir : Ir) → file bytes ir → Means bytes ir
+means bytes ir it = record { it = it; alone = λ other its. one_meaning bytes other ir its it }
+
+-- the answer to bytes that are no file
+pub refused_bytes : (bytes : List ℕ) (end : End FormatFault) → IsFault end (format_fault bytes) → RecodeRefuses bytes (format_answer end)
+refused_bytes bytes (endings.Fault fault) e = inr (fault, refl, (λ ir. fault_excludes bytes fault ir e, e, refl))
+refused_bytes bytes endings.Memory e = inl refl
+
+-- what is written of a file
+pub made_of : (bytes : List ℕ) (ir : Ir) (text out : List ℕ) → file bytes ir → out ≡ canonical ir → file out ir → text ≡ done_text out
+    → RecodeGives bytes (Done text) out
+made_of bytes ir text out found spelled reads says = (ir, means bytes ir found, spelled, means out ir reads, says)
 
 one_gives : (bytes : List ℕ) (a b : Answer) (o p : List ℕ) → RecodeGives bytes a o → RecodeGives bytes b p → a ≡ b
 one_gives bytes (Done s) (Done t) o p x y =
-    let same_uuid : x.0 ≡ y.0 = one_uuid x.2 y.2 in
-    let same_version : x.1 ≡ y.1 = one_version x.2 y.2 in
-    let out_x = x.3 in
-    let out_y = y.3 in
-    let text_x = x.4 in
-    let text_y = y.4 in
-    let same : o ≡ p = cc in
-    let texts : done_text o ≡ done_text p = ap done_text same in
-    cc
-one_gives bytes (Done s) (Format (Version byte field)) o p x y =
-    let e : byte ≡ x.1 = one_byte y.1 x.2 in
-    let f : field ≡ x.1 = one_version y.1 x.2 in
-    absurd (y.2 (e ∙ sym f))
-one_gives bytes (Done s) NotYet o p x y = absurd (y.0 _ _ _ x.2)
-one_gives bytes (Format (Version byte field)) (Done t) o p x y =
-    let e : byte ≡ y.1 = one_byte x.1 y.2 in
-    let f : field ≡ y.1 = one_version x.1 y.2 in
-    absurd (x.2 (e ∙ sym f))
-one_gives bytes (Format (Version byte field)) (Format (Version byte2 field2)) o p x y =
-    let e : byte ≡ byte2 = one_byte x.1 y.1 in
-    let f : field ≡ field2 = one_version x.1 y.1 in
-    cc
-one_gives bytes (Format (Version byte field)) NotYet o p x y = absurd (y.0 _ _ _ x.1)
-one_gives bytes NotYet (Done t) o p x y = absurd (x.0 _ _ _ y.2)
-one_gives bytes NotYet (Format (Version byte field)) o p x y = absurd (x.0 _ _ _ y.1)
-one_gives bytes NotYet NotYet o p x y = refl
+    let same : x.0 ≡ y.0 = y.1.alone x.0 x.1.it in
+    ap Done (x.4 ∙ ap done_text (x.2 ∙ ap canonical same ∙ sym y.2) ∙ sym y.4)
+one_gives bytes (Done s) (Format f) o p x y = absurd (y.0 x.0 x.1.it)
+one_gives bytes (Format f) (Done t) o p x y = absurd (x.0 y.0 y.1.it)
+one_gives bytes (Format f) (Format g) o p x y =
+    let first = x.1 in
+    let second = y.1 in
+    let same : f ≡ g = cc in
+    ap Format same
 one_gives bytes (Usage i) b o p x y = absurd x
 one_gives bytes (ReadFault r) b o p x y = absurd x
 one_gives bytes WriteFault b o p x y = absurd x
@@ -49,18 +53,12 @@ one_gives bytes (Done s) WriteFault o p x y = absurd y
 one_gives bytes (Done s) Memory o p x y = absurd y
 one_gives bytes (Done s) (TooLarge r) o p x y = absurd y
 one_gives bytes (Done s) (Image f) o p x y = absurd y
-one_gives bytes (Format (Version byte field)) (Usage i) o p x y = absurd y
-one_gives bytes (Format (Version byte field)) (ReadFault r) o p x y = absurd y
-one_gives bytes (Format (Version byte field)) WriteFault o p x y = absurd y
-one_gives bytes (Format (Version byte field)) Memory o p x y = absurd y
-one_gives bytes (Format (Version byte field)) (TooLarge r) o p x y = absurd y
-one_gives bytes (Format (Version byte field)) (Image f) o p x y = absurd y
-one_gives bytes NotYet (Usage i) o p x y = absurd y
-one_gives bytes NotYet (ReadFault r) o p x y = absurd y
-one_gives bytes NotYet WriteFault o p x y = absurd y
-one_gives bytes NotYet Memory o p x y = absurd y
-one_gives bytes NotYet (TooLarge r) o p x y = absurd y
-one_gives bytes NotYet (Image f) o p x y = absurd y
+one_gives bytes (Format f) (Usage i) o p x y = absurd y
+one_gives bytes (Format f) (ReadFault r) o p x y = absurd y
+one_gives bytes (Format f) WriteFault o p x y = absurd y
+one_gives bytes (Format f) Memory o p x y = absurd y
+one_gives bytes (Format f) (TooLarge r) o p x y = absurd y
+one_gives bytes (Format f) (Image g) o p x y = absurd y
 
 -- over some files `recode` has one answer
 pub one_recode : (name : List ℕ) (held : Files) (a b : Answer) (o p : List ℕ) → RecodeOf name held a o → RecodeOf name held b p → a ≡ b
@@ -76,28 +74,19 @@ pub recode_of : (files : Option Files) (name bytes seen : List ℕ) (answer : An
 recode_of files name bytes seen answer out here same gives =
     told_map files _ _ (λ held e. record { bytes = bytes; held = e; gives = subst (λ (bs : List ℕ). RecodeGives bs answer out) same gives }) here
 
--- a refusal isn't that of a write
-refusal_quiet : (bytes : List ℕ) (answer : Answer) (out : List ℕ) → (answer ≡ Memory) ⊎ RecodeGives bytes answer out → answer ≡ WriteFault → ⊥
-refusal_quiet bytes answer out (inl e) f = cc
-refusal_quiet bytes answer out (inr x) f = subst (λ (a : Answer). RecodeGives bytes a out) f x
+-- a refusal speaks of bytes or memory alone
+pub recode_refusal : (bytes : List ℕ) (answer : Answer) → RecodeRefuses bytes answer → IsRefusal answer
+recode_refusal bytes answer (inl e) = subst IsRefusal (sym e) tt
+recode_refusal bytes answer (inr x) = subst IsRefusal (sym x.1) tt
 
--- an answer that it gives for bytes isn't that of a refused read
-pub refusal_plain : (bytes : List ℕ) (answer : Answer) (out : List ℕ) → (answer ≡ Memory) ⊎ RecodeGives bytes answer out → NotRefused answer
-refusal_plain bytes (ReadFault r) out (inl e) = cc
-refusal_plain bytes (ReadFault r) out (inr x) = x
-refusal_plain bytes (TooLarge r) out (inl e) = cc
-refusal_plain bytes (TooLarge r) out (inr x) = x
-refusal_plain bytes (Done t) out h = tt
-refusal_plain bytes (Usage i) out h = tt
-refusal_plain bytes WriteFault out h = tt
-refusal_plain bytes Memory out h = tt
-refusal_plain bytes (Format f) out h = tt
-refusal_plain bytes NotYet out h = tt
-refusal_plain bytes (Image f) out h = tt
+-- it is what `recode` gives
+refusal_gives : (bytes : List ℕ) (answer : Answer) → RecodeRefuses bytes answer → (answer ≡ Memory) ⊎ RecodeGives bytes answer []
+refusal_gives bytes answer (inl e) = inl e
+refusal_gives bytes answer (inr x) = inr (subst (λ (a : Answer). RecodeGives bytes a []) (sym x.1) x.2)
 
 -- a refusal of the bytes of a file is the job's own
 pub refusal_own : (files : Option Files) (name bytes seen : List ℕ) (answer : Answer) → Told files (λ held. held name ≡ Some bytes)
-    → seen ≡ bytes → (answer ≡ Memory) ⊎ RecodeGives seen answer [] → IsOwn (RecodeOf name) files answer
+    → seen ≡ bytes → RecodeRefuses seen answer → IsOwn (RecodeOf name) files answer
 refusal_own files name bytes seen answer here same h =
-    gave_own (RecodeOf name) (one_recode name) files answer (λ e. refusal_quiet seen answer [] h e)
-    (elim h [ inl e ↦ inl e | inr x ↦ inr (recode_of files name bytes seen answer [] here same x) ])
+    gave_own (RecodeOf name) (one_recode name) files answer (refusal_quiet answer (recode_refusal seen answer h))
+    (elim (refusal_gives seen answer h) [ inl e ↦ inl e | inr x ↦ inr (recode_of files name bytes seen answer [] here same x) ])

@@ -9,10 +9,11 @@ use Rattle.link_image.specs.Reading.{image_fault}
 use Rattle.link_image.proofs.Images.{one_image, apart}
 use Rattle.num_run.specs.Run.{num_run}
 use Rattle.gt_front.specs.declared.answer.Answer.{Answer}
-use Rattle.gt_front.specs.declared.answer.Answer.TheVariants.{Done, Usage, ReadFault, WriteFault, Memory, TooLarge, Format, NotYet, Image}
+use Rattle.gt_front.specs.declared.answer.Answer.TheVariants.{Done, Usage, ReadFault, WriteFault, Memory, TooLarge, Format, Image}
 use Rattle.gt_front.specs.Causes.{IsOwn, Outcomes, Kept}
 use Rattle.gt_front.specs.Run.{RunGives, RunOf, RunRefuses, InputIs, image_answer, state_text}
-use Rattle.gt_front.proofs.Ends.{told_map, told_map2, gave_own, both_weaken, NotRefused}
+use Rattle.gt_front.proofs.Ends.{told_map, told_map2, gave_own}
+use Rattle.gt_front.proofs.Refusals.{IsRefusal, refusal_quiet}
 
 one_gives : (bytes input : List ℕ) (steps : ℕ) (a b : Answer) (o p : List ℕ) → RunGives bytes input steps a o → RunGives bytes input steps b p → a ≡ b
 one_gives bytes input steps (Done s) (Done t) o p x y =
@@ -31,21 +32,18 @@ one_gives bytes input steps (ReadFault r) b o p x y = absurd x
 one_gives bytes input steps WriteFault b o p x y = absurd x
 one_gives bytes input steps Memory b o p x y = absurd x
 one_gives bytes input steps (TooLarge r) b o p x y = absurd x
-one_gives bytes input steps NotYet b o p x y = absurd x
 one_gives bytes input steps (Format f) b o p x y = absurd x
 one_gives bytes input steps (Done s) (Usage i) o p x y = absurd y
 one_gives bytes input steps (Done s) (ReadFault r) o p x y = absurd y
 one_gives bytes input steps (Done s) WriteFault o p x y = absurd y
 one_gives bytes input steps (Done s) Memory o p x y = absurd y
 one_gives bytes input steps (Done s) (TooLarge r) o p x y = absurd y
-one_gives bytes input steps (Done s) NotYet o p x y = absurd y
 one_gives bytes input steps (Done s) (Format f) o p x y = absurd y
 one_gives bytes input steps (Image s) (Usage i) o p x y = absurd y
 one_gives bytes input steps (Image s) (ReadFault r) o p x y = absurd y
 one_gives bytes input steps (Image s) WriteFault o p x y = absurd y
 one_gives bytes input steps (Image s) Memory o p x y = absurd y
 one_gives bytes input steps (Image s) (TooLarge r) o p x y = absurd y
-one_gives bytes input steps (Image s) NotYet o p x y = absurd y
 one_gives bytes input steps (Image s) (Format f) o p x y = absurd y
 
 one_input : (name : Option (List ℕ)) (held : Files) (a b : List ℕ) → InputIs name held a → InputIs name held b → a ≡ b
@@ -94,18 +92,10 @@ pub refused_image : (bytes : List ℕ) (end : End ImageFault) → ((place : ℕ)
 refused_image bytes endings.Memory h = inl refl
 refused_image bytes (endings.Fault fault) h = inr (fault, refl, h fault.place refl)
 
--- a refusal isn't that of a read or a write
-pub refusal_plain : (bytes : List ℕ) (answer : Answer) → RunRefuses bytes answer → NotRefused answer
-refusal_plain bytes answer (inl e) = subst NotRefused (sym e) tt
-refusal_plain bytes answer (inr x) = subst NotRefused (sym x.1) tt
-
-pub refusal_quiet : (bytes : List ℕ) (answer : Answer) → RunRefuses bytes answer → answer ≡ WriteFault → ⊥
-refusal_quiet bytes answer (inl e) f = cc
-refusal_quiet bytes answer (inr x) f = let e = x.1 in cc
-
-pub refusal_used : (bytes : List ℕ) (answer : Answer) (index : ℕ) → RunRefuses bytes answer → answer ≡ Usage index → ⊥
-refusal_used bytes answer index (inl e) f = cc
-refusal_used bytes answer index (inr x) f = let e = x.1 in cc
+-- it speaks of bytes or memory alone
+pub run_refusal : (bytes : List ℕ) (answer : Answer) → RunRefuses bytes answer → IsRefusal answer
+run_refusal bytes answer (inl e) = subst IsRefusal (sym e) tt
+run_refusal bytes answer (inr x) = subst IsRefusal (sym x.1) tt
 
 -- it is what a run gives
 refusal_gives : (bytes input : List ℕ) (steps : ℕ) (answer : Answer) → RunRefuses bytes answer → (answer ≡ Memory) ⊎ RunGives bytes input steps answer []
@@ -115,20 +105,13 @@ refusal_gives bytes input steps answer (inr x) = inr (subst (λ (a : Answer). Ru
 pub refusal_alone : (files : Option Files) (name bytes seen : List ℕ) (steps : ℕ) (answer : Answer) → Told files (λ held. held name ≡ Some bytes)
     → seen ≡ bytes → RunRefuses seen answer → IsOwn (RunOf name None steps) files answer
 refusal_alone files name bytes seen steps answer here same h =
-    gave_own (RunOf name None steps) (one_run name None steps) files answer (refusal_quiet seen answer h)
+    gave_own (RunOf name None steps) (one_run name None steps) files answer (refusal_quiet answer (run_refusal seen answer h))
     (elim (refusal_gives seen [] steps answer h) [ inl e ↦ inl e | inr x ↦ inr (run_alone_of files name bytes seen steps answer [] here same x) ])
 
 pub refusal_with : (files : Option Files) (name input bytes given seen taken : List ℕ) (steps : ℕ) (answer : Answer)
     → Told files (λ held. held name ≡ Some bytes) → Told files (λ held. held input ≡ Some given) → seen ≡ bytes → taken ≡ given
     → RunRefuses seen answer → IsOwn (RunOf name (Some input) steps) files answer
 refusal_with files name input bytes given seen taken steps answer here there same also h =
-    gave_own (RunOf name (Some input) steps) (one_run name (Some input) steps) files answer (refusal_quiet seen answer h)
+    gave_own (RunOf name (Some input) steps) (one_run name (Some input) steps) files answer (refusal_quiet answer (run_refusal seen answer h))
     (elim (refusal_gives seen taken steps answer h)
     [ inl e ↦ inl e | inr x ↦ inr (run_with_of files name input bytes given seen taken steps answer [] here there same also x) ])
-
--- it leaves the files
-pub refusal_kept : (o n : Option Files) (own : Outcomes) (name bytes : List ℕ) (answer : Answer) → ToldBoth o n SameFiles → RunRefuses bytes answer
-    → ToldBoth o n (Kept own name answer)
-refusal_kept o n own name bytes answer same (inl e) =
-    subst (λ (a : Answer). ToldBoth o n (Kept own name a)) (sym e) (both_weaken o n _ _ (λ a c s. inl s) same)
-refusal_kept o n own name bytes answer same (inr x) = subst (λ (a : Answer). ToldBoth o n (Kept own name a)) (sym x.1) same

@@ -3,7 +3,7 @@ use Rattle.std.specs.Prelude.{◌≡◌, ◌≢◌, ◌⊎◌, ℕ, ◌+◌, ◌
 use Rattle.gr_base.specs.Desk.{Files, Told, SameFiles, Leaves, LeavesPart, Rose, Took}
 use Rattle.gt_front.specs.declared.answer.Role.{Role}
 use Rattle.gt_front.specs.declared.answer.Answer.{Answer}
-use Rattle.gt_front.specs.declared.answer.Answer.TheVariants.{Done, Usage, ReadFault, WriteFault, Memory, TooLarge, Format, NotYet, Image}
+use Rattle.gt_front.specs.declared.answer.Answer.TheVariants.{Done, Usage, ReadFault, WriteFault, Memory, TooLarge, Format, Image}
 use Rattle.gt_front.specs.Inputs.{InputFile, Names, Reaches, IsTooLarge, AllReadable}
 
 -- a job's own answer over the files, with the bytes that it writes
@@ -47,7 +47,6 @@ Settles own WriteFault = (text : List ℕ) × (own ≡ Done text)
 Settles own (Done text) = own ≡ Done text
 Settles own (Usage index) = own ≡ Usage index
 Settles own (Format fault) = own ≡ Format fault
-Settles own NotYet = own ≡ NotYet
 Settles own (Image fault) = own ≡ Image fault
 
 -- an answer that tells what the files hold is the job's own
@@ -59,7 +58,6 @@ TellsTruth own WriteFault = Unit {0}
 TellsTruth own (Usage index) = Unit {0}
 TellsTruth own (Done text) = own (Done text)
 TellsTruth own (Format fault) = own (Format fault)
-TellsTruth own NotYet = own NotYet
 TellsTruth own (Image fault) = own (Image fault)
 
 -- the job's own answer comes, and no other but one that a desk or want of memory puts in its place
@@ -84,5 +82,4 @@ Kept own name (Usage index) old new = SameFiles old new
 Kept own name (ReadFault role) old new = SameFiles old new
 Kept own name (TooLarge role) old new = SameFiles old new
 Kept own name (Format fault) old new = SameFiles old new
-Kept own name NotYet old new = SameFiles old new
 Kept own name (Image fault) old new = SameFiles old new

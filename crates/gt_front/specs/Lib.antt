@@ -3,7 +3,6 @@ pub mod Answer
 pub mod Note
 pub mod Inputs
 pub mod Causes
-pub mod Thin
 pub mod Recode
 pub mod Reads
 pub mod Asks

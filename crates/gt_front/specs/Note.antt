@@ -2,11 +2,10 @@
 use Rattle.std.specs.Prelude.{ℕ, List, ◌++◌, codes}
 use Rattle.std.specs.Fmt.{decimal}
 use Rattle.gt_front.specs.declared.answer.Answer.{Answer}
-use Rattle.gt_front.specs.declared.answer.Answer.TheVariants.{Done, Usage, ReadFault, WriteFault, Memory, TooLarge, Format, NotYet, Image}
+use Rattle.gt_front.specs.declared.answer.Answer.TheVariants.{Done, Usage, ReadFault, WriteFault, Memory, TooLarge, Format, Image}
 use Rattle.gt_front.specs.declared.answer.Role.{Role}
 use Rattle.gt_front.specs.declared.answer.Role.TheVariants.{In, Patch, Layout, Input}
-use Rattle.gt_front.specs.declared.format_fault.FormatFault.{FormatFault}
-use Rattle.gt_front.specs.declared.format_fault.FormatFault.TheVariants.{Version}
+use Rattle.gt_read.specs.FaultText.{fault_text}
 
 -- a role in a note
 abbrev pub role_name : Role → List ℕ
@@ -14,10 +13,6 @@ role_name In = codes "in"
 role_name Patch = codes "patch"
 role_name Layout = codes "layout"
 role_name Input = codes "input"
-
--- what is wrong with a file, and its numbers
-abbrev pub format_note : FormatFault → List ℕ
-format_note (Version byte field) = codes "version " ++ (decimal byte ++ (codes " and " ++ decimal field))
 
 -- the line of an answer
 abbrev pub note : Answer → List ℕ
@@ -27,6 +22,5 @@ note (ReadFault role) = codes "read fault: " ++ role_name role
 note WriteFault = codes "write fault"
 note Memory = codes "memory"
 note (TooLarge role) = codes "too large: " ++ role_name role
-note (Format fault) = codes "format: " ++ format_note fault
-note NotYet = codes "not yet"
+note (Format fault) = codes "format: " ++ fault_text fault
 note (Image fault) = codes "image at " ++ decimal fault.place

@@ -3,7 +3,7 @@ use Rattle.std.specs.Prelude.{◌≡◌, ℕ, ◌+◌, ◌^◌, Bool, IsTrue, Li
 use Rattle.gr_base.specs.Desk.{Files, Told, ToldBoth, Leaves, LeavesPart, Rose, Took}
 use Rattle.gt_front.specs.declared.answer.Role.{Role}
 use Rattle.gt_front.specs.declared.answer.Answer.{Answer}
-use Rattle.gt_front.specs.declared.answer.Answer.TheVariants.{Done, Usage, ReadFault, WriteFault, Memory, TooLarge, Format, NotYet, Image}
+use Rattle.gt_front.specs.declared.answer.Answer.TheVariants.{Done, Usage, ReadFault, WriteFault, Memory, TooLarge, Format, Image}
 use Rattle.gt_front.specs.Inputs.{IsTooLarge}
 
 -- the counts of a desk around a call
@@ -24,7 +24,6 @@ Refuses role name files steady counts (Done text) = ⊥
 Refuses role name files steady counts (Usage index) = ⊥
 Refuses role name files steady counts WriteFault = ⊥
 Refuses role name files steady counts (Format fault) = ⊥
-Refuses role name files steady counts NotYet = ⊥
 Refuses role name files steady counts (Image fault) = ⊥
 
 -- how a finished job's write ends
@@ -37,5 +36,4 @@ Writes name text out steady before now old new (Usage index) = ⊥
 Writes name text out steady before now old new (ReadFault role) = ⊥
 Writes name text out steady before now old new (TooLarge role) = ⊥
 Writes name text out steady before now old new (Format fault) = ⊥
-Writes name text out steady before now old new NotYet = ⊥
 Writes name text out steady before now old new (Image fault) = ⊥

@@ -15,7 +15,7 @@ use Rattle.num_run.specs.declared.report.RunEnd.TheVariants as ends
 use Rattle.num_run.specs.declared.report.RunReport.{RunReport}
 use Rattle.num_run.specs.Run.{num_run}
 use Rattle.gt_front.specs.declared.answer.Answer.{Answer}
-use Rattle.gt_front.specs.declared.answer.Answer.TheVariants.{Done, Usage, ReadFault, WriteFault, Memory, TooLarge, Format, NotYet, Image}
+use Rattle.gt_front.specs.declared.answer.Answer.TheVariants.{Done, Usage, ReadFault, WriteFault, Memory, TooLarge, Format, Image}
 
 -- why a machine stopped
 abbrev pub trap_text : Trap → List ℕ
@@ -41,7 +41,6 @@ abbrev pub RunGives : List ℕ → List ℕ → ℕ → Answer → List ℕ → 
 RunGives bytes input steps (Done text) out =
     (image : images.Image) × image_bytes image bytes × (out ≡ (num_run image input steps).output) × (text ≡ state_text (num_run image input steps))
 RunGives bytes input steps (Image fault) out = image_fault bytes fault.place × (out ≡ [])
-RunGives bytes input steps NotYet out = ⊥
 RunGives bytes input steps (Format fault) out = ⊥
 RunGives bytes input steps (Usage index) out = ⊥
 RunGives bytes input steps (ReadFault role) out = ⊥

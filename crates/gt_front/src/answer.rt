@@ -1,8 +1,8 @@
 ghost use Rattle.std.specs.Prelude.{◌≡◌};
 ghost use Rattle.gt_front.specs.Answer.{status_of};
 
-use crate::format_fault::FormatFault;
 use gr_base::Text;
+use gt_read::FormatFault;
 use link_image::ImageFault;
 
 /// What an input file is to a job, in the order in which they are read.
@@ -26,9 +26,8 @@ pub enum Answer {
     WriteFault,
     Memory,
     TooLarge(Role),
+    /// The bytes aren't a GTIRB file.
     Format(FormatFault),
-    /// The file was read whole, and isn't one of those that can be taken so far.
-    NotYet,
     /// The bytes aren't an image.
     Image(ImageFault),
 }
@@ -46,7 +45,6 @@ impl Answer {
             Answer::Memory => 5,
             Answer::TooLarge(_) => 6,
             Answer::Format(_) => 7,
-            Answer::NotYet => 99,
             Answer::Image(_) => 14,
         }
     }

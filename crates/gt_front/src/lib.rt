@@ -4,18 +4,16 @@
 
 mod answer;
 mod files;
-mod format_fault;
 mod note;
 mod number;
 mod recode;
 mod run;
 mod serve;
 mod state;
-mod thin;
 mod words;
 
 pub use answer::{Answer, Role};
-pub use format_fault::FormatFault;
+pub use gt_read::FormatFault;
 pub use note::note_text;
 pub use serve::serve_words;
 pub use words::{Job, WordName};

@@ -1,8 +1,7 @@
 ghost use Rattle.std.specs.Prelude.{◌≡◌, Some, IfOk};
-ghost use Rattle.gt_front.specs.Note.{note, role_name, format_note};
+ghost use Rattle.gt_front.specs.Note.{note, role_name};
 
 use crate::answer::{Answer, Role};
-use crate::format_fault::FormatFault;
 use gr_base::Text;
 use std::alloc::{AllocError, Global};
 use std::fmt;
@@ -20,16 +19,6 @@ impl fmt::Display for Role {
     }
 }
 
-impl fmt::Display for FormatFault {
-    ghost output = { λ fault. Some (format_note fault) };
-
-    fn fmt<W: fmt::Write>(&self, f: &mut fmt::Formatter<W>) -> fmt::Result {
-        match self {
-            FormatFault::Version(byte, field) => write!(f, "version {byte} and {field}"),
-        }
-    }
-}
-
 impl fmt::Display for Answer {
     ghost output = { λ answer. Some (note answer) };
 
@@ -42,7 +31,6 @@ impl fmt::Display for Answer {
             Answer::Memory => write!(f, "memory"),
             Answer::TooLarge(role) => write!(f, "too large: {role}"),
             Answer::Format(fault) => write!(f, "format: {fault}"),
-            Answer::NotYet => write!(f, "not yet"),
             Answer::Image(fault) => write!(f, "image at {}", fault.place),
         }
     }

@@ -1,45 +1,56 @@
-ghost use Rattle.std.specs.Prelude.{◌≡◌, ◌≢◌, ◌⊎◌, ◌≤◌, ◌^◌, ◌∷◌, ◌++◌, [], ℕ, length, IfOk, IfErr, codes};
+ghost use Rattle.std.specs.Prelude.{◌≡◌, ◌≢◌, ◌⊎◌, ◌≤◌, ◌<◌, ◌^◌, ◌∷◌, ◌++◌, [], ℕ, length, IfOk, IfErr, codes};
 ghost use Rattle.gr_base.specs.Desk.{ToldBoth};
 ghost use Rattle.gt_front.specs.declared.answer.Answer.TheVariants as answers;
 ghost use Rattle.gt_front.specs.declared.answer.Role.TheVariants as roles;
 ghost use Rattle.gt_front.specs.Causes.{ReadFaultCause, TooLargeCause, WriteFaultCause, IsOwn, Kept};
 ghost use Rattle.std.specs.Fmt.{decimal};
-ghost use Rattle.gt_front.specs.Thin.{thin_spelling};
-ghost use Rattle.gt_front.specs.Recode.{RecodeGives, RecodeOf, done_text};
+ghost use Rattle.gt_model.specs.Ordered.{ordered};
+ghost use Rattle.gt_read.specs.File.{file};
+ghost use Rattle.gt_write.specs.Canonical.{canonical};
+ghost use Rattle.gt_front.specs.Recode.{RecodeGives, RecodeRefuses, RecodeOf, done_text, format_answer};
 
 use crate::answer::{Answer, Role};
 use crate::files::{Finished, read_input, write_output};
-use crate::format_fault::FormatFault;
-use crate::thin::{read_thin, write_thin};
-use gr_base::{Desk, Text};
+use gr_base::{Desk, End, Text};
+use gt_model::Ir;
+use gt_read::{FormatFault, read_file};
+use gt_write::write_file;
 use std::alloc::{AllocError, Global};
 
 /// What `recode` makes of the bytes of its input.
 fn recoded(alloc: Global, bytes: &[u8]) -> Result<Finished, Answer>
     requires { length bytes.now ≤ 2 ^ 26 }
     ensures done { IfOk result (λ made. RecodeGives bytes.now (answers.Done made.text) made.out) }
-    ensures refused { IfErr result (λ answer. (answer ≡ answers.Memory) ⊎ RecodeGives bytes.now answer []) }
+    ensures refused { IfErr result (RecodeRefuses bytes.now) }
 {
-    let Some(file) = read_thin(bytes) else {
-        return Err(Answer::NotYet);
+    let ir = match read_file(alloc, bytes) {
+        Ok(ir) => ir,
+        Err(end) => return Err(format_answer(end)),
     };
-    if file.prefix != file.version {
-        let fault = FormatFault::Version(file.prefix, file.version as u32);
-        return Err(Answer::Format(fault));
-    }
-    match spelled(alloc, file.uuid, file.version) {
+    match spelled(alloc, &ir) {
         Ok(finished) => Ok(finished),
         Err(AllocError) => Err(Answer::Memory),
     }
 }
 
-/// The canonical file of an identifier and a version, and the text that says how long it is.
-fn spelled(alloc: Global, uuid: &[u8], version: u8) -> Result<Finished, AllocError>
-    requires { length uuid.now ≡ 16 }
-    ensures out { IfOk result (λ made. made.out ≡ thin_spelling uuid.now version) }
+fn format_answer(end: End<FormatFault>) -> Answer
+    ensures { result ≡ format_answer end }
+{
+    match end {
+        End::Fault(fault) => Answer::Format(fault),
+        End::Memory => Answer::Memory,
+    }
+}
+
+/// The canonical file of an IR, and the text that says how long it is.
+fn spelled(alloc: Global, ir: &Ir) -> Result<Finished, AllocError>
+    requires order { ordered ir.now }
+    requires version { ir.now.version < 256 }
+    ensures out { IfOk result (λ made. made.out ≡ canonical ir.now) }
+    ensures reads { IfOk result (λ made. file made.out ir.now) }
     ensures text { IfOk result (λ made. made.text ≡ done_text made.out) }
 {
-    let out = write_thin(alloc, uuid, version)?;
+    let out = write_file(alloc, ir)?;
     let text = bytes_text(alloc, out.len())?;
     Ok(Finished { text, out })
 }

@@ -2,7 +2,8 @@ use Rattle.std.proofs.Common.{[], None, refl}
 use Rattle.gt_front.specs.declared.answer.Role.TheVariants as roles
 use Rattle.gt_front.specs.Run.{RunOf}
 use Rattle.gt_front.proofs.Ends.{read_fault_none, too_large_none, refused_read_fault, refused_too_large, told_always, told_readable, finished_not_refused, finished_write_fault, finished_own, finished_kept}
-use Rattle.gt_front.proofs.RunLaws.{one_run, run_alone_of, refusal_plain, refusal_alone, refusal_kept}
+use Rattle.gt_front.proofs.RunLaws.{one_run, run_alone_of, run_refusal, refusal_alone}
+use Rattle.gt_front.proofs.Refusals.{refusal_plain, refusal_kept}
 use Rattle.gt_front.proofs.run.run_alone.Goals as goal
 
 pub returns-in-Err-clause-read_fault : goal.returns-in-Err-clause-read_fault
@@ -45,17 +46,17 @@ returns-in-Ok-ran-clause-kept g c =
 pub returns-clause-read_fault : goal.returns-clause-read_fault
 returns-clause-read_fault g c =
     read_fault_none _ _ _ _ _ _
-    (refusal_plain c.as_slice.result.now _ c.in-Err-ran.ensures.refused)
+    (refusal_plain _ (run_refusal _ _ c.in-Err-ran.ensures.refused))
     (told_readable _ roles.In _ _ c.in-Ok.ensures.content c.in-Ok.ensures.bound)
 
 pub returns-clause-too_large : goal.returns-clause-too_large
 returns-clause-too_large g c =
     too_large_none _ _ _ _ _ _
-    (refusal_plain c.as_slice.result.now _ c.in-Err-ran.ensures.refused)
+    (refusal_plain _ (run_refusal _ _ c.in-Err-ran.ensures.refused))
     (told_readable _ roles.In _ _ c.in-Ok.ensures.content c.in-Ok.ensures.bound)
 
 pub returns-clause-own : goal.returns-clause-own
 returns-clause-own g c = refusal_alone _ _ _ _ _ _ c.in-Ok.ensures.content c.as_slice.ensures c.in-Err-ran.ensures.refused
 
 pub returns-clause-kept : goal.returns-clause-kept
-returns-clause-kept g c = refusal_kept _ _ (RunOf c.args.image.now None c.args.steps) c.args.output.now _ _ c.in-Ok.ensures.files c.in-Err-ran.ensures.refused
+returns-clause-kept g c = refusal_kept _ _ (RunOf c.args.image.now None c.args.steps) c.args.output.now _ c.in-Ok.ensures.files (run_refusal _ _ c.in-Err-ran.ensures.refused)

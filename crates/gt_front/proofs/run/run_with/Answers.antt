@@ -2,7 +2,8 @@ use Rattle.std.proofs.Common.{arith, ◌≡◌, ◌∷◌, [], Some, refl, ◌�
 use Rattle.gt_front.specs.declared.answer.Role.TheVariants as roles
 use Rattle.gt_front.specs.Run.{RunOf}
 use Rattle.gt_front.proofs.Ends.{read_fault_none, too_large_none, refused_read_fault, refused_too_large, told_always, told_readable, told_readable2, told_back, same_both, refused_back, finished_not_refused, finished_write_fault, finished_own, finished_kept}
-use Rattle.gt_front.proofs.RunLaws.{one_run, run_with_of, refusal_plain, refusal_with, refusal_kept}
+use Rattle.gt_front.proofs.RunLaws.{one_run, run_with_of, run_refusal, refusal_with}
+use Rattle.gt_front.proofs.Refusals.{refusal_plain, refusal_kept}
 use Rattle.gt_front.proofs.run.run_with.Goals as goal
 
 pub returns-in-Err-clause-read_fault : goal.returns-in-Err-clause-read_fault
@@ -66,13 +67,13 @@ returns-in-Ok-ran-clause-kept g c =
 pub returns-clause-read_fault : goal.returns-clause-read_fault
 returns-clause-read_fault g c =
     read_fault_none _ _ _ _ _ _
-    (refusal_plain c.as_slice.result.now _ c.in-Err-ran.ensures.refused)
+    (refusal_plain _ (run_refusal _ _ c.in-Err-ran.ensures.refused))
     (told_readable2 _ roles.In roles.Input _ _ _ _ c.in-Ok.ensures.content c.in-Ok.ensures.bound (told_back _ _ c.args.input.now (λ x. x ≡ Some c.in-Ok-read_input.given) c.in-Ok.ensures.files c.in-Ok-read_input.ensures.content) c.in-Ok-read_input.ensures.bound)
 
 pub returns-clause-too_large : goal.returns-clause-too_large
 returns-clause-too_large g c =
     too_large_none _ _ _ _ _ _
-    (refusal_plain c.as_slice.result.now _ c.in-Err-ran.ensures.refused)
+    (refusal_plain _ (run_refusal _ _ c.in-Err-ran.ensures.refused))
     (told_readable2 _ roles.In roles.Input _ _ _ _ c.in-Ok.ensures.content c.in-Ok.ensures.bound (told_back _ _ c.args.input.now (λ x. x ≡ Some c.in-Ok-read_input.given) c.in-Ok.ensures.files c.in-Ok-read_input.ensures.content) c.in-Ok-read_input.ensures.bound)
 
 pub returns-clause-own : goal.returns-clause-own
@@ -82,5 +83,5 @@ returns-clause-own g c =
 
 pub returns-clause-kept : goal.returns-clause-kept
 returns-clause-kept g c =
-    refusal_kept _ _ (RunOf c.args.image.now (Some c.args.input.now) c.args.steps) c.args.output.now _ _
-    (same_both _ _ _ c.in-Ok.ensures.files c.in-Ok-read_input.ensures.files) c.in-Err-ran.ensures.refused
+    refusal_kept _ _ (RunOf c.args.image.now (Some c.args.input.now) c.args.steps) c.args.output.now _
+    (same_both _ _ _ c.in-Ok.ensures.files c.in-Ok-read_input.ensures.files) (run_refusal _ _ c.in-Err-ran.ensures.refused)
