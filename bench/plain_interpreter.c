@@ -1,4 +1,5 @@
-/* A plain interpreter of the same instructions, as a yardstick of speed.
+/* A plain interpreter of the instructions that bench/run.sh measures, as a yardstick of speed: a switch on the
+ * word, and no translation.
  *
  *     gcc -O2 -o plain_interpreter plain_interpreter.c
  *     ./plain_interpreter IMAGE [STEPS]
@@ -20,8 +21,9 @@ struct segment {
 
 struct machine {
     uint64_t registers[31], stack_pointer, place;
+    unsigned n, z, c, v;
     struct segment *segments;
-    size_t count, last;
+    size_t count, code, data;
 };
 
 static uint64_t word_of(const uint8_t *bytes) {
@@ -30,20 +32,56 @@ static uint64_t word_of(const uint8_t *bytes) {
     return word;
 }
 
-static int has(const struct segment *s, uint64_t at) {
-    return at - s->at < s->len && s->len - (at - s->at) >= 4;
+static int has(const struct segment *s, uint64_t at, uint64_t len) {
+    return at - s->at < s->len && s->len - (at - s->at) >= len;
 }
 
-static const uint8_t *fetch(struct machine *m, uint64_t at) {
-    const struct segment *s = &m->segments[m->last];
-    if (has(s, at))
+/* The bytes at an address; `last` is the segment that was found last. */
+static uint8_t *bytes_at(struct machine *m, size_t *last, uint64_t at, uint64_t len) {
+    struct segment *s = &m->segments[*last];
+    if (has(s, at, len))
         return s->bytes + (at - s->at);
     for (size_t i = 0; i < m->count; i++)
-        if (has(s = &m->segments[i], at)) {
-            m->last = i;
+        if (has(s = &m->segments[i], at, len)) {
+            *last = i;
             return s->bytes + (at - s->at);
         }
     return NULL;
+}
+
+static uint64_t get(const struct machine *m, unsigned r, int stack) {
+    return r < 31 ? m->registers[r] : stack ? m->stack_pointer : 0;
+}
+
+static void set(struct machine *m, unsigned r, int stack, unsigned sf, uint64_t value) {
+    if (!sf)
+        value = (uint32_t)value;
+    if (r < 31)
+        m->registers[r] = value;
+    else if (stack)
+        m->stack_pointer = value;
+}
+
+static int64_t sign(uint64_t value, unsigned bits) {
+    return (int64_t)(value << (64 - bits)) >> (64 - bits);
+}
+
+/* a plus b, or a less b, and for s the flags. */
+static uint64_t sum(struct machine *m, unsigned sf, unsigned less, unsigned s, uint64_t a, uint64_t b) {
+    unsigned width = sf ? 64 : 32;
+    if (!sf)
+        a = (uint32_t)a, b = (uint32_t)b;
+    if (less)
+        b = sf ? ~b : (uint32_t)~b;
+    __uint128_t all = (__uint128_t)a + b + less;
+    uint64_t value = sf ? (uint64_t)all : (uint32_t)all;
+    if (s) {
+        m->n = value >> (width - 1);
+        m->z = value == 0;
+        m->c = (unsigned)(all >> width) & 1;
+        m->v = (~(a ^ b) & (a ^ value)) >> (width - 1) & 1;
+    }
+    return value;
 }
 
 static enum end move_wide(struct machine *m, uint32_t word) {
@@ -54,30 +92,134 @@ static enum end move_wide(struct machine *m, uint32_t word) {
     if (opc == 0)
         value = ~bits;
     if (opc == 3)
-        value = ((rd < 31 ? m->registers[rd] : 0) & ~((uint64_t)0xffff << 16 * hw)) | bits;
-    if (rd < 31)
-        m->registers[rd] = sf ? value : (uint32_t)value;
+        value = (get(m, rd, 0) & ~((uint64_t)0xffff << 16 * hw)) | bits;
+    set(m, rd, 0, sf, value);
     return RUNNING;
+}
+
+static enum end immediate(struct machine *m, uint32_t word) {
+    unsigned sf = word >> 31, less = word >> 30 & 1, s = word >> 29 & 1;
+    uint64_t value;
+    switch (word >> 23 & 7) {
+    case 2:
+        value = (uint64_t)(word >> 10 & 0xfff) << (word >> 22 & 1 ? 12 : 0);
+        set(m, word & 31, !s, sf, sum(m, sf, less, s, get(m, word >> 5 & 31, 1), value));
+        return RUNNING;
+    case 5:
+        return move_wide(m, word);
+    default:
+        return UNDECODED;
+    }
+}
+
+static enum end registers(struct machine *m, uint32_t word) {
+    unsigned sf = word >> 31, less = word >> 30 & 1, s = word >> 29 & 1, amount = word >> 10 & 63;
+    uint64_t b = get(m, word >> 16 & 31, 0);
+    if ((word >> 24 & 31) != 0x0b || word >> 21 & 1 || (!sf && amount > 31))
+        return UNDECODED;
+    if (!sf)
+        b = (uint32_t)b;
+    switch (word >> 22 & 3) {
+    case 0: b <<= amount; break;
+    case 1: b >>= amount; break;
+    case 2: b = sf ? (uint64_t)((int64_t)b >> amount) : (uint32_t)((int32_t)b >> amount); break;
+    default: return UNDECODED;
+    }
+    set(m, word & 31, 0, sf, sum(m, sf, less, s, get(m, word >> 5 & 31, 0), b));
+    return RUNNING;
+}
+
+static enum end access(struct machine *m, uint32_t word) {
+    unsigned size = word >> 30, opc = word >> 22 & 3, rn = word >> 5 & 31, rt = word & 31, kind = word >> 24 & 63;
+    uint64_t base = get(m, rn, 1), at = base, value = 0;
+    int64_t offset = sign(word >> 12 & 0x1ff, 9);
+    unsigned index = word >> 10 & 3;
+    if ((size == 3 && opc > 1) || (size == 2 && opc == 3))
+        return UNDECODED;
+    if (kind == 0x39)
+        at = base + ((uint64_t)(word >> 10 & 0xfff) << size);
+    else if (kind != 0x38 || word >> 21 & 1 || index == 2)
+        return UNDECODED;
+    else if (index != 1)
+        at = base + offset;
+    uint8_t *bytes = bytes_at(m, &m->data, at, 1u << size);
+    if (!bytes)
+        return FAULT;
+    if (opc == 0) {
+        value = get(m, rt, 0);
+        memcpy(bytes, &value, 1u << size);
+    } else {
+        memcpy(&value, bytes, 1u << size);
+        if (opc > 1)
+            value = sign(value, 8u << size);
+        set(m, rt, 0, opc != 3, value);
+    }
+    if (kind == 0x38 && index)
+        set(m, rn, 1, 1, base + offset);
+    return RUNNING;
+}
+
+static int holds(const struct machine *m, unsigned condition) {
+    int yes;
+    switch (condition >> 1) {
+    case 0: yes = m->z; break;
+    case 1: yes = m->c; break;
+    case 2: yes = m->n; break;
+    case 3: yes = m->v; break;
+    case 4: yes = m->c && !m->z; break;
+    case 5: yes = m->n == m->v; break;
+    case 6: yes = m->n == m->v && !m->z; break;
+    default: return 1;
+    }
+    return yes != (int)(condition & 1);
+}
+
+/* Branches and the system's instructions; `next` is the place behind the word. */
+static enum end branch(struct machine *m, uint32_t word, uint64_t *next) {
+    uint64_t value;
+    switch (word >> 24) {
+    case 0x14: case 0x15: case 0x16: case 0x17:
+        *next = m->place + sign(word & 0x3ffffff, 26) * 4;
+        return RUNNING;
+    case 0x54:
+        if (word >> 4 & 1)
+            return UNDECODED;
+        if (holds(m, word & 15))
+            *next = m->place + sign(word >> 5 & 0x7ffff, 19) * 4;
+        return RUNNING;
+    case 0x34: case 0x35: case 0xb4: case 0xb5:
+        value = get(m, word & 31, 0);
+        if (!(word >> 31))
+            value = (uint32_t)value;
+        if ((value == 0) != (int)(word >> 24 & 1))
+            *next = m->place + sign(word >> 5 & 0x7ffff, 19) * 4;
+        return RUNNING;
+    case 0xd4:
+        return (word & 0xffe0001f) == 0xd4000001 ? CALL : (word & 0xffe0001f) == 0xd4200000 ? BREAK : UNDECODED;
+    case 0xd5:
+        return (word & 0xfffff01f) == 0xd503201f ? RUNNING : UNDECODED;
+    default:
+        return UNDECODED;
+    }
 }
 
 static enum end step(struct machine *m) {
     uint32_t word;
-    enum end end = RUNNING;
-    const uint8_t *bytes = m->place % 4 ? NULL : fetch(m, m->place);
+    enum end end;
+    const uint8_t *bytes = m->place % 4 ? NULL : bytes_at(m, &m->code, m->place, 4);
+    uint64_t next = m->place + 4;
     if (!bytes)
         return FAULT;
     memcpy(&word, bytes, 4);
-    if ((word >> 23 & 63) == 0x25)
-        end = move_wide(m, word);
-    else if ((word & 0xffe0001f) == 0xd4000001)
-        end = CALL;
-    else if ((word & 0xffe0001f) == 0xd4200000)
-        end = BREAK;
-    else if (word >> 16 == 0)
-        end = UDF;
-    else if ((word & 0xfffff01f) != 0xd503201f)
-        end = UNDECODED;
-    m->place += 4;
+    switch (word >> 25 & 15) {
+    case 8: case 9: end = immediate(m, word); break;
+    case 5: end = registers(m, word); break;
+    case 4: case 12: end = access(m, word); break;
+    case 10: case 11: end = branch(m, word, &next); break;
+    default: end = word >> 16 ? UNDECODED : UDF;
+    }
+    if (end == RUNNING)
+        m->place = next;
     return end;
 }
 

@@ -1,31 +1,43 @@
 #!/usr/bin/env bash
-# Times `recode` on a file of 64 MiB beside `cat` of the same file, and prints the ratio and the peak
-# memory. Run it after `rt ci`, which leaves the program that is timed.
+# Times `recode` beside a program over libprotobuf that parses and serializes the same files, and prints
+# for each file both times, their ratio, and peak memory as a multiple of the file. Run it after `rt ci`, which
+# leaves the program that is timed. It is skipped where protoc, g++ or libprotobuf-dev is missing.
 set -eu
 cd "$(dirname "$0")/.."
-program=crates/gtirb_a64/out/gtirb_a64
+program=${1:-crates/gtirb_a64/out/gtirb_a64}
 [ -x "$program" ] || { echo "bench: $program is missing: run rt ci first"; exit 1; }
+command -v protoc g++ >/dev/null || { echo "bench/recode: skipped, protoc or g++ is missing"; exit 0; }
 work=$(mktemp -d)
 trap 'rm -rf "$work"' EXIT
-python3 - "$work/large" <<'PY'
-import sys
-with open(sys.argv[1], "wb") as f:
-    f.write(b"GTIRB\0\0\4" + bytes(2 ** 26 - 8))
-PY
-python3 - "$program" "$work/large" "$work/out" <<'PY'
-import resource, subprocess, sys, time
-program, large, out = sys.argv[1:]
+protoc -Ipeers --cpp_out="$work" peers/gtirb.proto
+g++ -O2 -std=c++17 -I"$work" bench/protobuf_recode.cpp "$work/gtirb.pb.cc" -lprotobuf -o "$work/peer" 2>/dev/null ||
+    { echo "bench/recode: skipped, libprotobuf-dev is missing"; exit 0; }
+mebibyte=1048576
+python3 bench/files.py nodes $((8 * mebibyte)) "$work/nodes of 8 MiB"
+python3 bench/files.py nodes $((64 * mebibyte)) "$work/nodes of 64 MiB"
+python3 bench/files.py contents $((64 * mebibyte)) "$work/contents of 64 MiB"
+python3 - "$program" "$work" <<'PY'
+import filecmp, os, resource, subprocess, sys, time
+program, work = sys.argv[1:]
 
 def best(command, runs=5):
-    times = []
+    """The least time, and the peak memory in bytes."""
+    times, peak = [], 0
     for _ in range(runs):
         start = time.perf_counter()
-        subprocess.run(command, stdout=subprocess.DEVNULL, stderr=subprocess.DEVNULL)
+        child = os.spawnv(os.P_NOWAIT, command[0], command)
+        _, status, usage = os.wait4(child, 0)
         times.append(time.perf_counter() - start)
-    return min(times)
+        peak = max(peak, usage.ru_maxrss * 1024)
+        assert status == 0, command
+    return min(times), peak
 
-cat = best(["cat", large])
-recode = best([program, "recode", f"in={large}", f"out={out}"])
-peak = resource.getrusage(resource.RUSAGE_CHILDREN).ru_maxrss
-print(f"cat {cat:.3f} s, recode {recode:.3f} s, ratio {recode / cat:.1f}, peak memory {peak / 1024:.0f} MiB")
+os.dup2(os.open(os.devnull, os.O_WRONLY), 2)
+for name in ("nodes of 8 MiB", "nodes of 64 MiB", "contents of 64 MiB"):
+    file = f"{work}/{name}"
+    size = os.path.getsize(file)
+    peer, peer_peak = best([f"{work}/peer", file, f"{work}/theirs"])
+    ours, our_peak = best([program, "recode", f"in={file}", f"out={work}/ours"])
+    assert filecmp.cmp(f"{work}/theirs", f"{work}/ours", shallow=False), name
+    print(f"{name}: libprotobuf {peer:.2f} s, recode {ours:.2f} s, ratio {ours / peer:.2f}; peak memory {our_peak / size:.1f} times the file, libprotobuf's {peer_peak / size:.1f}; the same bytes")
 PY

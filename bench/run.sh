@@ -1,9 +1,11 @@
 #!/usr/bin/env bash
-# Times `run` on as many HINTs as an image holds beside a plain C interpreter of the same rows, and prints the steps per
-# second of both, their ratio and the peak memory. Run it after `rt ci`; it wants gcc.
+# Times `run` on loops of 10,000,000 steps beside a plain C interpreter of the same instructions, and prints
+# the steps per second of both, their ratio and the peak memory: adds, loads, stores and branches in an image of
+# one segment for code and one for data, and of 1,000 segments; and a loop of HINTs. Run it after `rt ci`; it
+# wants gcc.
 set -eu
 cd "$(dirname "$0")/.."
-program=crates/gtirb_a64/out/gtirb_a64
+program=${1:-crates/gtirb_a64/out/gtirb_a64}
 [ -x "$program" ] || { echo "bench: $program is missing: run rt ci first"; exit 1; }
 command -v gcc >/dev/null || { echo "bench: gcc is missing, nothing to compare with"; exit 0; }
 work=$(mktemp -d)
@@ -12,10 +14,23 @@ gcc -O2 -o "$work/interpreter" bench/plain_interpreter.c
 python3 - "$program" "$work/interpreter" "$work" <<'PY'
 import resource, struct, subprocess, sys, time
 program, interpreter, work = sys.argv[1:]
-STEPS = 4_000_000  # about as many HINTs as an image of 2 ** 24 bytes holds
-code = struct.pack("<I", 0xD503201F) * STEPS
-image = b"GRIMG001" + struct.pack("<6Q", 0x100000, 0x10000, 16, 1, 0x100000, len(code)) + code
-open(f"{work}/hints", "wb").write(image)
+STEPS = 10_000_000
+# movz x1, #0x2, lsl #16 and then a loop: ldr x4, [x1]; add x4, x4, #1; str x4, [x1]; ldrb w5, [x1, #8];
+# add w6, w5, w4; strh w6, [x1, #16]; ldrsw x7, [x1, #4]; add x8, x8, x7, lsl #2; str w8, [x1, #24];
+# subs x9, x4, x8; b.eq 8; cbz x4, 8; b to the start of the loop
+MIX = [0xD2A00041, 0xF9400024, 0x91000484, 0xF9000024, 0x39402025, 0x0B0400A6, 0x79002026, 0xB9800427,
+       0x8B070908, 0xB9001828, 0xEB080089, 0x54000040, 0xB4000044, 0x17FFFFF4]
+# fifteen HINTs and a branch to the first
+HINTS = [0xD503201F] * 15 + [0x17FFFFF1]
+
+def image(name, code, others):
+    """The code at 2 ** 16, data at 2 ** 17 and so many segments more on both sides."""
+    segments = [(0x10000, struct.pack(f"<{len(code)}I", *code)), (0x20000, bytes(4096))]
+    segments += [(0x2000 + 64 * index if index % 2 else 0x40000 + 64 * index, bytes(16)) for index in range(others)]
+    with open(f"{work}/{name}", "wb") as file:
+        file.write(b"GRIMG001" + struct.pack("<4Q", 0x10000, 0x1000000, 0x1000, len(segments)))
+        for at, held in sorted(segments):
+            file.write(struct.pack("<2Q", at, len(held)) + held)
 
 def best(command, runs=5):
     times = []
@@ -25,13 +40,17 @@ def best(command, runs=5):
         times.append(time.perf_counter() - start)
     return min(times)
 
-# The time of the steps alone: a run of all of them less a run of one.
 def steps_only(command):
+    """The time of the steps alone: a run of all of them less a run of one."""
     return best(command(STEPS)) - best(command(1))
 
-ours = steps_only(lambda n: [program, "run", f"in={work}/hints", f"out={work}/out", f"steps={n}"])
-peak = resource.getrusage(resource.RUSAGE_CHILDREN).ru_maxrss
-plain = steps_only(lambda n: [interpreter, f"{work}/hints", str(n)])
-print(f"run {STEPS / ours / 1e6:.1f} million steps a second, plain C {STEPS / plain / 1e6:.1f}, "
-      f"ratio {ours / plain:.1f}, peak memory {peak / 1024:.0f} MiB")
+for name, code, others in (("mix", MIX, 0), ("mix in 1,000 segments", MIX, 998), ("hints", HINTS, 0)):
+    image(name, code, others)
+    note = subprocess.run([program, "run", f"in={work}/{name}", f"out={work}/out", f"steps={STEPS}"], capture_output=True).stderr
+    assert note == f"steps={STEPS} running\n".encode(), note
+    ours = steps_only(lambda n: [program, "run", f"in={work}/{name}", f"out={work}/out", f"steps={n}"])
+    peak = resource.getrusage(resource.RUSAGE_CHILDREN).ru_maxrss
+    plain = steps_only(lambda n: [interpreter, f"{work}/{name}", str(n)])
+    print(f"{name}: run {STEPS / ours / 1e6:.1f} million steps a second, plain C {STEPS / plain / 1e6:.1f}, "
+          f"ratio {ours / plain:.1f}, peak memory {peak / 1024:.0f} MiB")
 PY
