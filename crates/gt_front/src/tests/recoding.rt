@@ -1,5 +1,6 @@
 use super::{SMALLEST, bytes_of, expect_answer};
 use gr_base::HonestDesk;
+use gt_read::read_file;
 use std::test::Fail;
 
 /// The prefix of a file of version 4.
@@ -57,6 +58,22 @@ fn writes_the_canonical_spelling(rt: HostRuntime) -> Result<(), Fail> {
             "what {written} is written as"
         );
     }
+    Ok(())
+}
+
+// The IR of a graph in two records, copied.
+#[test]
+fn a_copy_means_the_same(rt: HostRuntime) -> Result<(), Fail> {
+    let alloc = rt.alloc();
+    let file = bytes_of(
+        alloc,
+        "47544952420000 04 0a10 u01 3004 3a26 1224 0a10 u02 1210 u03 3a26 1224 0a10 u04 1210 u05",
+    )?;
+    let ir = read_file(alloc, file.as_slice())?;
+    let copy = ir.copy(alloc)?;
+    let (first, second) = (format!(in alloc; "{ir:?}")?, format!(in alloc; "{copy:?}")?);
+    assert_eq!(rt; second.as_str(), first.as_str());
+    assert_eq!(rt; copy.cfg.map(|cfg| cfg.edges.len()), Some(2));
     Ok(())
 }
 
