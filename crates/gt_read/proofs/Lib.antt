@@ -19,3 +19,5 @@ pub mod FileLemmas
 pub mod OneMeaning
 pub mod EveryMeaning
 pub mod NoFault
+pub mod ListWalks
+pub mod PackedLists

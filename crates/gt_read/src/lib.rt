@@ -14,6 +14,7 @@ mod file;
 mod ids;
 mod intervals;
 mod irs;
+pub mod laws;
 mod message;
 mod module_drafts;
 mod modules;

@@ -10,7 +10,7 @@ use crate::fault::FormatFault;
 use crate::ids::IdFault;
 use crate::pieces::{Piece, Run};
 use gr_base::End;
-use pb_wire::Cursor;
+use pb_wire::{Cursor, laws};
 use std::alloc::{AllocError, Global};
 
 /// The draft of a message, which takes one record after another.
@@ -49,6 +49,7 @@ pub fn merge<M: Message>(
     requires { base + length bytes.now ≤ 2 ^ 64 - 1 }
     ensures { Answers result (message_faults M.faults bytes.now base) (λ _. Folds M.steps draft.old (pieces bytes.now base) draft.new) }
 {
+    laws::records_are_read();
     let mut cursor = Cursor::new(bytes, base);
     'records: loop {
         match cursor.next() {

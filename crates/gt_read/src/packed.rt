@@ -11,12 +11,13 @@ use crate::fault::FormatFault;
 use crate::pieces::{Carried, Piece};
 use crate::slots::low;
 use gr_base::{End, Seq};
-use pb_wire::{WireFault, read_varint};
+use pb_wire::{WireFault, laws, read_varint};
 
 /// The numbers of a packed run, whose record stands at the place.
 fn take_packed(slot: &mut Seq<i32>, place: u64, bytes: &[u8]) -> Result<(), End<FormatFault>>
     ensures { Answers result (packed_faults Signed32 place bytes.now) (λ _. slot.new ≡ slot.old ++ packed_signed bytes.now) }
 {
+    laws::varints_are_read();
     let mut rest = bytes;
     while !rest.is_empty() {
         match read_varint(rest) {

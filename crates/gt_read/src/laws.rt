@@ -1,0 +1,60 @@
+//! Laws of the definitions that contracts cite: each function is its contract.
+
+ghost use Rattle.std.specs.Prelude.{◌≡◌, ◌+◌, ℕ, List, [], ◌++◌, length, map, Option, Some, None};
+ghost use Rattle.pb_wire.specs.declared.fault.WireFault.{WireFault};
+ghost use Rattle.pb_wire.specs.declared.fault.WireReason.{WireReason};
+ghost use Rattle.pb_wire.specs.declared.records.Record.{Record};
+ghost use Rattle.pb_wire.specs.Ahead.{Ahead};
+ghost use Rattle.pb_wire.specs.Faults.{wire_fault, varints_fault};
+ghost use Rattle.pb_wire.specs.Records.{records, Takes};
+ghost use Rattle.pb_wire.specs.Varint.{IsVarint, varints};
+ghost use Rattle.gt_model.specs.declared.ir.Ir.{Ir};
+ghost use Rattle.gt_read.specs.declared.fault.FormatFault.{FormatFault};
+ghost use Rattle.gt_read.specs.File.{file, format_fault};
+ghost use Rattle.gt_read.specs.Kinds.{packed, put_number};
+ghost use Rattle.gt_read.specs.Pieces.{piece_of, pieces, broken, walk, put_first};
+
+/// The pieces of bytes are the records of the list that spells them, and nothing is broken; where
+/// there is a wire fault, they are the records before it, and it is what is broken.
+pub fn pieces_are_the_records()
+    ensures list { (bytes : List ℕ) (base : ℕ) (list : List Record) → records bytes base list →
+        (pieces bytes base ≡ map (piece_of bytes base) list) × (broken bytes base ≡ None) }
+    ensures fault { (bytes : List ℕ) (base : ℕ) (fault : WireFault) (f : wire_fault bytes base fault) →
+        (pieces bytes base ≡ map (piece_of bytes base) f.list) × (broken bytes base ≡ Some fault) }
+{
+    pb_wire::laws::records_are_read();
+}
+
+/// The records of bytes are the one at the front and those behind it.
+pub fn records_one_by_one()
+    ensures { (r : Record) (old new : Ahead) → Takes r old new → walk old.bytes old.place ≡ put_first (piece_of old.bytes old.place r) (walk new.bytes new.place) }
+{
+    pb_wire::laws::records_are_read();
+}
+
+/// A packed run is read as the varints that spell it; where there is a fault, as those before it.
+pub fn packed_runs_are_varints()
+    ensures list { (bytes numbers : List ℕ) → varints bytes numbers → packed bytes ≡ record { numbers = numbers; failed = None } }
+    ensures fault { (bytes numbers : List ℕ) (reason : WireReason) → varints_fault bytes numbers reason → packed bytes ≡ record { numbers = numbers; failed = Some reason } }
+    ensures first { (front rest : List ℕ) (number : ℕ) → IsVarint front number → packed (front ++ rest) ≡ put_number number (packed rest) }
+{
+    pb_wire::laws::varints_are_read();
+}
+
+/// Bytes mean one IR at most.
+pub fn one_meaning()
+    ensures { (bytes : List ℕ) (a b : Ir) → file bytes a → file bytes b → a ≡ b }
+{
+    gt_model::laws::one_value();
+}
+
+/// Bytes that mean an IR have no fault.
+pub fn a_file_has_no_fault()
+    ensures none { (bytes : List ℕ) (ir : Ir) → file bytes ir → format_fault bytes ≡ None }
+    ensures excluded { (bytes : List ℕ) (fault : FormatFault) (ir : Ir) → format_fault bytes ≡ Some fault → file bytes ir → ⊥ }
+{}
+
+/// Bytes without a fault mean an IR.
+pub fn no_fault_is_a_file()
+    ensures { (bytes : List ℕ) → format_fault bytes ≡ None → (ir : Ir) × file bytes ir }
+{}
