@@ -114,16 +114,16 @@ none-landing : (r : Reference) (o : Option Kind) → IsSomeAnd o (λ kind. IsTru
 none-landing r None h = absurd h
 none-landing r (Some kind) h = rw h refl
 
-references-none : (ns : List Node) (rs : List Reference) → first_reference_fault ns rs ≡ None → AllByRecursion (Lands ns) rs
+references-none : (ns : List Node) (rs : List Reference) → first_reference_fault (kind_at ns) rs ≡ None → AllByRecursion (Lands ns) rs
 references-none ns [] h = tt
 references-none ns (r ∷ rs) h =
-    let both = or-none (reference_fault ns r) (first_reference_fault ns rs) h in
+    let both = or-none (reference_fault (kind_at ns) r) (first_reference_fault (kind_at ns) rs) h in
     (landing-none r (kind_at ns r.to) both.0, references-none ns rs both.1)
 
-none-references : (ns : List Node) (rs : List Reference) → AllByRecursion (Lands ns) rs → first_reference_fault ns rs ≡ None
+none-references : (ns : List Node) (rs : List Reference) → AllByRecursion (Lands ns) rs → first_reference_fault (kind_at ns) rs ≡ None
 none-references ns [] h = refl
 none-references ns (r ∷ rs) h =
-    none-or (reference_fault ns r) (first_reference_fault ns rs) (none-landing r (kind_at ns r.to) h.0) (none-references ns rs h.1)
+    none-or (reference_fault (kind_at ns) r) (first_reference_fault (kind_at ns) rs) (none-landing r (kind_at ns r.to) h.0) (none-references ns rs h.1)
 
 linked_from_none : (ir : Ir) → link_fault ir ≡ None → linked ir
 linked_from_none ir h =

@@ -70,16 +70,17 @@ abbrev pub landing_fault : Reference → Option Kind → Option LinkFault
 landing_fault r None = Some (Dangling r.from r.to)
 landing_fault r (Some kind) = if suits r.wanted kind then None else Some (WrongKind r.from r.to)
 
-abbrev pub reference_fault : List Node → Reference → Option LinkFault
-reference_fault ns r = landing_fault r (kind_at ns r.to)
+-- of a reference, where each identifier stands for what the function says
+abbrev pub reference_fault : (List ℕ → Option Kind) → Reference → Option LinkFault
+reference_fault kind_of r = landing_fault r (kind_of r.to)
 
 -- the first reference that is wrong
-abbrev pub first_reference_fault : List Node → List Reference → Option LinkFault
-first_reference_fault ns [] = None
-first_reference_fault ns (r ∷ rs) = option_or (reference_fault ns r) (first_reference_fault ns rs)
+abbrev pub first_reference_fault : (List ℕ → Option Kind) → List Reference → Option LinkFault
+first_reference_fault kind_of [] = None
+first_reference_fault kind_of (r ∷ rs) = option_or (reference_fault kind_of r) (first_reference_fault kind_of rs)
 
 -- the first fault
 abbrev pub link_fault : Ir → Option LinkFault
 link_fault ir =
     option_or (repeat_fault [] (nodes ir))
-    (option_or (bare_fault (intervals ir)) (first_reference_fault (nodes ir) (references ir)))
+    (option_or (bare_fault (intervals ir)) (first_reference_fault (kind_at (nodes ir)) (references ir)))
