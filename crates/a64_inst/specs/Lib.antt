@@ -7,3 +7,5 @@ pub mod Numbers
 pub mod Operations
 pub mod Domain
 pub mod Meaning
+pub mod Kinds
+pub mod Fitting
