@@ -1,8 +1,8 @@
 ghost use Rattle.std.specs.Prelude.{nat_eq, cond};
 
-use super::*;
-use aux_types::{AuxType, parse_type};
-use gr_base::End;
+use aux_codec::{Place, Places, decode_aux, encode_aux, map_places};
+use aux_types::parse_type;
+use gr_base::{AuxFault, End};
 use std::alloc::{AllocError, Global};
 use std::test::Fail;
 
@@ -29,67 +29,24 @@ fn is_refused(alloc: Global, of: &str, bytes: &[u8], fault: AuxFault) -> bool {
 
 #[test]
 fn values_are_read_and_written(rt: HostRuntime) -> Result<(), Fail> {
-    let rows: [(&str, &[u8]); 40] = [
-        ("string", &[0, 0, 0, 0, 0, 0, 0, 0]),
+    let rows: [(&str, &[u8]); 14] = [
         ("string", &[3, 0, 0, 0, 0, 0, 0, 0, 0x61, 0xC3, 0xA9]),
-        ("bool", &[0]),
-        ("bool", &[1]),
-        ("UUID", &[0; 16]),
-        ("UUID", &[0xFF; 16]),
-        ("Addr", &[0; 8]),
-        ("Addr", &[0xFF; 8]),
-        ("Offset", &[0; 24]),
-        ("Offset", &[0xFF; 24]),
+        ("tuple<bool,UUID>", &[1; 17]),
+        ("tuple<Addr,Offset>", &[0xFF; 32]),
         ("int8_t", &[0x80]),
-        ("int8_t", &[0x7F]),
         ("int16_t", &[0, 0x80]),
-        ("int16_t", &[0xFF, 0x7F]),
         ("int32_t", &[0, 0, 0, 0x80]),
-        ("int32_t", &[0xFF, 0xFF, 0xFF, 0x7F]),
         ("int64_t", &[0, 0, 0, 0, 0, 0, 0, 0x80]),
-        ("int64_t", &[0xFF, 0xFF, 0xFF, 0xFF, 0xFF, 0xFF, 0xFF, 0x7F]),
-        ("uint8_t", &[0]),
-        ("uint8_t", &[0xFF]),
-        ("uint16_t", &[0; 2]),
-        ("uint16_t", &[0xFF; 2]),
-        ("uint32_t", &[0; 4]),
-        ("uint32_t", &[0xFF; 4]),
-        ("uint64_t", &[0; 8]),
-        ("uint64_t", &[0xFF; 8]),
-        ("float", &[0; 4]),
-        ("float", &[0xFF; 4]),
-        ("double", &[0; 8]),
-        ("double", &[0xFF; 8]),
-        ("sequence<bool>", &[0; 8]),
+        ("tuple<uint8_t,uint16_t,uint32_t,uint64_t>", &[0xFF; 15]),
+        ("tuple<float,double>", &[0xFF; 12]),
         ("sequence<uint8_t>", &[2, 0, 0, 0, 0, 0, 0, 0, 5, 5]),
         ("set<uint8_t>", &[2, 0, 0, 0, 0, 0, 0, 0, 6, 5]),
         (
             "mapping<bool,int8_t>",
             &[2, 0, 0, 0, 0, 0, 0, 0, 1, 7, 0, 7],
         ),
-        (
-            "mapping<uint8_t,mapping<uint8_t,bool>>",
-            &[
-                2, 0, 0, 0, 0, 0, 0, 0, 1, 1, 0, 0, 0, 0, 0, 0, 0, 9, 1, 2, 1, 0, 0, 0, 0, 0, 0, 0,
-                9, 0,
-            ],
-        ),
-        (
-            "mapping<mapping<bool,bool>,bool>",
-            &[
-                2, 0, 0, 0, 0, 0, 0, 0, 1, 0, 0, 0, 0, 0, 0, 0, 1, 1, 0, 0, 0, 0, 0, 0, 0, 0, 0, 0,
-            ],
-        ),
-        ("tuple<bool,uint16_t,int8_t>", &[1, 2, 0, 0xFF]),
         ("variant<bool,int8_t>", &[0, 0, 0, 0, 0, 0, 0, 0, 1]),
         ("variant<bool,int8_t>", &[1, 0, 0, 0, 0, 0, 0, 0, 0x80]),
-        (
-            "sequence<tuple<UUID,set<string>>>",
-            &[
-                1, 0, 0, 0, 0, 0, 0, 0, 7, 7, 7, 7, 7, 7, 7, 7, 7, 7, 7, 7, 7, 7, 7, 7, 2, 0, 0, 0,
-                0, 0, 0, 0, 0, 0, 0, 0, 0, 0, 0, 0, 1, 0, 0, 0, 0, 0, 0, 0, 0x61,
-            ],
-        ),
     ];
     for (of, bytes) in rows {
         assert!(rt; is_read_and_written(rt.alloc(), of, bytes)?, "{of}");
@@ -99,113 +56,30 @@ fn values_are_read_and_written(rt: HostRuntime) -> Result<(), Fail> {
 
 #[test]
 fn the_first_fault_is_named(rt: HostRuntime) {
-    let rows: [(&str, &[u8], AuxFault); 38] = [
-        // one byte short
-        ("string", &[0; 7], AuxFault::Short(0)),
-        (
-            "string",
-            &[3, 0, 0, 0, 0, 0, 0, 0, 0x61, 0x62],
-            AuxFault::Short(8),
-        ),
-        ("bool", &[], AuxFault::Short(0)),
-        ("UUID", &[1; 15], AuxFault::Short(0)),
-        ("Addr", &[1; 7], AuxFault::Short(0)),
-        ("Offset", &[1; 15], AuxFault::Short(0)),
+    let rows: [(&str, &[u8], AuxFault); 9] = [
         ("Offset", &[1; 23], AuxFault::Short(16)),
-        ("int8_t", &[], AuxFault::Short(0)),
-        ("int16_t", &[1; 1], AuxFault::Short(0)),
-        ("int32_t", &[1; 3], AuxFault::Short(0)),
-        ("int64_t", &[1; 7], AuxFault::Short(0)),
-        ("uint8_t", &[], AuxFault::Short(0)),
-        ("uint16_t", &[1; 1], AuxFault::Short(0)),
-        ("uint32_t", &[1; 3], AuxFault::Short(0)),
-        ("uint64_t", &[1; 7], AuxFault::Short(0)),
-        ("float", &[1; 3], AuxFault::Short(0)),
-        ("double", &[1; 7], AuxFault::Short(0)),
-        ("sequence<bool>", &[0; 7], AuxFault::Short(0)),
-        (
-            "set<bool>",
-            &[2, 0, 0, 0, 0, 0, 0, 0, 1],
-            AuxFault::Short(9),
-        ),
-        ("tuple<bool,uint16_t>", &[1, 2], AuxFault::Short(1)),
-        (
-            "variant<bool,int16_t>",
-            &[1, 0, 0, 0, 0, 0, 0, 0, 1],
-            AuxFault::Short(8),
-        ),
         // a count far past the bytes
-        (
-            "string",
-            &[0, 0, 0, 0, 0, 0, 0, 0x80, 1, 2, 3, 4, 5, 6, 7, 8],
-            AuxFault::Short(8),
-        ),
         (
             "sequence<uint64_t>",
             &[0, 0, 0, 0, 0, 0, 0, 0x80, 1, 2, 3, 4, 5, 6, 7, 8],
             AuxFault::Short(16),
         ),
-        (
-            "set<UUID>",
-            &[0, 0, 0, 0, 0, 0, 0, 0x80, 1, 2, 3, 4, 5, 6, 7, 8],
-            AuxFault::Short(8),
-        ),
-        (
-            "mapping<uint64_t,bool>",
-            &[0, 0, 0, 0, 0, 0, 0, 0x80, 1, 2, 3, 4, 5, 6, 7, 8],
-            AuxFault::Short(16),
-        ),
-        // a byte that is left over
-        ("bool", &[1, 0], AuxFault::Rest(1)),
-        (
-            "sequence<bool>",
-            &[1, 0, 0, 0, 0, 0, 0, 0, 1, 1],
-            AuxFault::Rest(9),
-        ),
-        // not a truth value
         ("bool", &[2], AuxFault::BadBool(0)),
-        (
-            "sequence<bool>",
-            &[2, 0, 0, 0, 0, 0, 0, 0, 1, 3, 4],
-            AuxFault::BadBool(9),
-        ),
-        // no such part
-        (
-            "variant<bool>",
-            &[1, 0, 0, 0, 0, 0, 0, 0, 1],
-            AuxFault::BadVariant(0),
-        ),
-        (
-            "variant<bool>",
-            &[0, 0, 0, 0, 0, 0, 0, 0x80],
-            AuxFault::BadVariant(0),
-        ),
+        ("bool", &[1, 0], AuxFault::Rest(1)),
         (
             "tuple<bool,variant<bool,bool>>",
             &[1, 2, 0, 0, 0, 0, 0, 0, 0],
             AuxFault::BadVariant(1),
-        ),
-        // not UTF-8
-        (
-            "string",
-            &[1, 0, 0, 0, 0, 0, 0, 0, 0xFF],
-            AuxFault::BadUtf8(8),
         ),
         (
             "string",
             &[2, 0, 0, 0, 0, 0, 0, 0, 0x61, 0xC3],
             AuxFault::BadUtf8(8),
         ),
-        // twice the same
         (
             "set<uint8_t>",
             &[2, 0, 0, 0, 0, 0, 0, 0, 5, 5],
             AuxFault::Duplicate(9),
-        ),
-        (
-            "set<uint8_t>",
-            &[3, 0, 0, 0, 0, 0, 0, 0, 5, 6, 5],
-            AuxFault::Duplicate(10),
         ),
         // a key is refused before its value is read
         (
