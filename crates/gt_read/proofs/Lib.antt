@@ -21,3 +21,6 @@ pub mod EveryMeaning
 pub mod NoFault
 pub mod ListWalks
 pub mod PackedLists
+pub mod GoodPieces
+pub mod TypedMeaning
+pub mod TypedIr

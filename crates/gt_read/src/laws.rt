@@ -1,6 +1,6 @@
 //! Laws of the definitions that contracts cite: each function is its contract.
 
-ghost use Rattle.std.specs.Prelude.{◌≡◌, ◌+◌, ℕ, List, [], ◌++◌, length, map, Option, Some, None};
+ghost use Rattle.std.specs.Prelude.{◌≡◌, ◌+◌, ◌<◌, ℕ, List, [], ◌++◌, length, map, Option, Some, None};
 ghost use Rattle.pb_wire.specs.declared.fault.WireFault.{WireFault};
 ghost use Rattle.pb_wire.specs.declared.fault.WireReason.{WireReason};
 ghost use Rattle.pb_wire.specs.declared.records.Record.{Record};
@@ -9,6 +9,8 @@ ghost use Rattle.pb_wire.specs.Faults.{wire_fault, varints_fault};
 ghost use Rattle.pb_wire.specs.Records.{records, Takes};
 ghost use Rattle.pb_wire.specs.Varint.{IsVarint, varints};
 ghost use Rattle.gt_model.specs.declared.ir.Ir.{Ir};
+ghost use Rattle.gt_model.specs.Ordered.{ordered};
+ghost use Rattle.gt_model.specs.Typed.{AreBytes, typed};
 ghost use Rattle.gt_read.specs.declared.fault.FormatFault.{FormatFault};
 ghost use Rattle.gt_read.specs.File.{file, format_fault};
 ghost use Rattle.gt_read.specs.Kinds.{packed, put_number};
@@ -58,3 +60,14 @@ pub fn a_file_has_no_fault()
 pub fn no_fault_is_a_file()
     ensures { (bytes : List ℕ) → format_fault bytes ≡ None → (ir : Ir) × file bytes ir }
 {}
+
+/// An IR that bytes mean has values of its types, its maps in order, and a version of one byte.
+pub fn a_file_is_typed()
+    ensures typed { (bytes : List ℕ) (ir : Ir) → AreBytes bytes → file bytes ir → typed ir }
+    ensures order { (bytes : List ℕ) (ir : Ir) → file bytes ir → ordered ir }
+    ensures version { (bytes : List ℕ) (ir : Ir) → AreBytes bytes → file bytes ir → ir.version < 256 }
+{
+    pb_wire::laws::records_are_read();
+    pb_wire::laws::varints_are_read();
+    pb_wire::laws::varint_fits();
+}
