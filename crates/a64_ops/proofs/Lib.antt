@@ -1,4 +1,0 @@
-pub mod Leading
-pub mod Moved
-pub mod Powers
-pub mod Widths

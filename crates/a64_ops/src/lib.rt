@@ -1,9 +1,9 @@
-//! What the instructions of the integer profile compute, for every machine that runs them.
+//! The operations that an instruction is made of, as a list that takes no memory.
 #![tactic(auto)]
 
-pub mod fields;
-pub mod numbers;
-pub mod products;
-pub mod shifts;
-pub mod sums;
-pub mod turned;
+mod list;
+mod parts;
+mod rows;
+
+pub use list::OpList;
+pub use rows::ops;

@@ -14,9 +14,9 @@ use crate::memory::byte_count;
 use crate::report::RunEnd;
 use crate::runner::Runner;
 use a64_inst::{Sum, Trap, Width};
-use a64_ops::numbers::sign_extended;
-use a64_ops::shifts::{extended_operand, loaded};
-use a64_ops::sums::sum;
+use a64_numbers::numbers::sign_extended;
+use a64_numbers::shifts::{extended_operand, loaded};
+use a64_numbers::sums::sum;
 
 impl<'a> Runner<'a> {
     /// LDR and LDRSW of a literal.

@@ -12,8 +12,8 @@ ghost use Rattle.num_run.specs.Runner.{machine, Comes};
 
 use crate::report::RunEnd;
 use crate::runner::Runner;
-use a64_ops::numbers::{immediate, sum_of, width};
-use a64_ops::{shifts, sums};
+use a64_numbers::numbers::{immediate, sum_of, width};
+use a64_numbers::{shifts, sums};
 
 impl<'a> Runner<'a> {
     /// ADD, ADDS, SUB and SUBS of an immediate.

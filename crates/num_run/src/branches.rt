@@ -14,7 +14,7 @@ ghost use Rattle.num_run.specs.Runner.{machine, Comes};
 use crate::report::RunEnd;
 use crate::runner::Runner;
 use a64_inst::Width;
-use a64_ops::numbers;
+use a64_numbers::numbers;
 
 impl<'a> Runner<'a> {
     /// The place of the instruction plus a signed offset of so many bits.

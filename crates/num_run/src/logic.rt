@@ -11,7 +11,7 @@ ghost use Rattle.num_run.specs.Runner.{machine, Comes};
 
 use crate::report::RunEnd;
 use crate::runner::Runner;
-use a64_ops::{fields, numbers, shifts, sums};
+use a64_numbers::{fields, numbers, shifts, sums};
 
 impl<'a> Runner<'a> {
     /// AND, BIC, ORR, ORN, EOR, EON, ANDS and BICS of a shifted register.

@@ -8,7 +8,7 @@ ghost use Rattle.num_run.specs.Runner.{machine};
 use crate::report::RunEnd;
 use crate::runner::Runner;
 use a64_inst::{Flags, Sum, Width};
-use a64_ops::sums;
+use a64_numbers::sums;
 
 impl<'a> Runner<'a> {
     /// Keeps a result, where register 31 keeps none, and goes on.

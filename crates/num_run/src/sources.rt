@@ -12,9 +12,9 @@ ghost use Rattle.num_run.specs.Runner.{machine, Comes};
 use crate::report::RunEnd;
 use crate::runner::Runner;
 use a64_inst::Width;
-use a64_ops::numbers::{chosen, sum_of, width};
-use a64_ops::sums::sum;
-use a64_ops::{products, turned};
+use a64_numbers::numbers::{chosen, sum_of, width};
+use a64_numbers::sums::sum;
+use a64_numbers::{products, turned};
 
 impl<'a> Runner<'a> {
     /// UDIV, SDIV, LSLV, LSRV, ASRV, RORV.
