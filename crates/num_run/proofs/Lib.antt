@@ -1,9 +1,12 @@
 pub mod Accesses
+pub mod Added
 pub mod Ends
+pub mod Images
 pub mod Loads
-pub mod Lookups
+pub mod Memories
+pub mod Places
 pub mod Spans
-pub mod Starts
-pub mod Steps
+pub mod Reached
+pub mod Stretches
 pub mod Sums
-pub mod Writes
+pub mod Decoding

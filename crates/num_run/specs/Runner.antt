@@ -17,7 +17,7 @@ machine runner = record {
   memory = mapped runner.memory;
   place = runner.place;
   input = runner.input.now;
-  output = runner.output.items;
+  output = runner.output.bytes.items;
 }
 
 -- what a step came to, as its answer tells: on to a machine, or an end that leaves it

@@ -10,7 +10,7 @@ ghost use Rattle.num_run.specs.Access.{accessed, advanced, moved, low_bytes};
 ghost use Rattle.num_run.specs.Mapped.{IsMemory};
 ghost use Rattle.num_run.specs.Runner.{machine, Comes};
 
-use crate::memory::byte_count;
+use crate::ranges::byte_count;
 use crate::report::RunEnd;
 use crate::runner::Runner;
 use a64_inst::{Sum, Trap, Width};
