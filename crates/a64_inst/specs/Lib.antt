@@ -6,7 +6,7 @@ pub mod Table
 pub mod Numbers
 pub mod Domain
 pub mod Meaning
-pub mod Kinds
-pub mod Fitting
 pub mod Runs
 pub mod RunLaws
+pub mod Kinds
+pub mod Fitting

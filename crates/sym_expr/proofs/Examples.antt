@@ -18,8 +18,8 @@ use Rattle.sym_expr.specs.declared.patches.PatchTable.{PatchTable}
 use Rattle.sym_expr.specs.declared.patches.PatchWord.{PatchWord}
 use Rattle.sym_expr.specs.declared.patches.SymbolName.TheVariants as names
 use Rattle.sym_expr.specs.Expressions.{BadOperand, BadTarget, expr_faults}
-use Rattle.sym_expr.specs.Linkable.{overlaps, has_loaded_entry}
-use Rattle.sym_expr.specs.Modules.{in_order}
+use Rattle.sym_expr.specs.Linkable.{overlaps, overlaps_in, is_entered}
+use Rattle.sym_expr.specs.Modules.{in_order, loaded_intervals}
 use Rattle.sym_expr.specs.Patches.{function_blocks, name_in, Start, End}
 use Rattle.sym_expr.specs.Points.{word_at, after, goes_on, reached}
 use Rattle.sym_expr.specs.Program.{Program, program}
@@ -75,10 +75,10 @@ no_faults : expr_faults call no_tables ≡ []
 unfolding table
 no_faults = refl
 
-all_apart : overlaps call ≡ []
+all_apart : overlaps (loaded_intervals call) ≡ []
 all_apart = refl
 
-has_entry : has_loaded_entry call ≡ true
+has_entry : is_entered call ≡ true
 has_entry = refl
 
 named : old_target call patches (id 9) (pos 0) ≡ Code (start_of (id 12))
@@ -136,16 +136,16 @@ entries_fit : expr_faults (jumps 4 9) bytes_each ≡ []
 unfolding table
 entries_fit = refl
 
-scale_of_three : expr_faults (jumps 3 9) bytes_each ≡ (id 7, (1, BadOperand)) ∷ []
+scale_of_three : expr_faults (jumps 3 9) bytes_each ≡ (1, BadOperand) ∷ []
 unfolding table
 scale_of_three = refl
 
-data_in_entry : expr_faults (jumps 4 10) bytes_each ≡ (id 7, (1, BadTarget)) ∷ []
+data_in_entry : expr_faults (jumps 4 10) bytes_each ≡ (1, BadTarget) ∷ []
 unfolding table
 data_in_entry = refl
 
 -- without the table of sizes an expression has eight bytes
-entries_of_eight : expr_faults (jumps 4 9) no_tables ≡ (id 7, (0, BadOperand)) ∷ (id 7, (1, BadOperand)) ∷ []
+entries_of_eight : expr_faults (jumps 4 9) no_tables ≡ (0, BadOperand) ∷ (1, BadOperand) ∷ []
 unfolding table
 entries_of_eight = refl
 
@@ -154,7 +154,7 @@ entries_of_eight = refl
 empty_first : in_order (data_at 1 8 4 ∷ data_at 2 8 0 ∷ code 3 0 8 ∷ data_at 4 8 0 ∷ []) ≡ code 3 0 8 ∷ data_at 2 8 0 ∷ data_at 4 8 0 ∷ data_at 1 8 4 ∷ []
 empty_first = refl
 
-inside_another : overlaps (module_of [] (section 3 (interval 4 (data_at 1 0 8 ∷ data_at 2 4 0 ∷ []) [] (replicate 8 0) ∷ []) ∷ [])) ≡ (id 1, id 2) ∷ []
+inside_another : overlaps_in (interval 4 (data_at 1 0 8 ∷ data_at 2 4 0 ∷ []) [] (replicate 8 0)) ≡ (data_at 1 0 8, data_at 2 4 0) ∷ []
 inside_another = refl
 
 alignments : map (λ (e : Option ℕ). effective e 4 24) (None ∷ Some 0 ∷ Some 4 ∷ Some 16 ∷ Some 24 ∷ []) ≡ 1 ∷ 1 ∷ 4 ∷ 8 ∷ 8 ∷ []

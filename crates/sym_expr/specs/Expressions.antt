@@ -1,6 +1,5 @@
 -- Which expressions a module may have: an operand of a word, an address or a difference in data (the rules are ours).
 use Rattle.std.specs.Prelude.{ℕ, ◌+◌, ◌%◌, ℤ, pos, min, max, Bool, true, false, ◌==◌, ◌&&◌, ◌||◌, not, nat_lt, nat_le, if◌then◌else◌, List, map, find, Option, None, Some, is_some}
-use Rattle.std.specs.Int.{w32, from_le_bytes}
 use Rattle.std.specs.List.{list_any, flat_map, filter_map}
 use Rattle.std.specs.Option.{option_map, option_map_or}
 use Rattle.std.specs.Ordering.{int_eq}
@@ -14,7 +13,7 @@ use Rattle.gt_model.specs.declared.modules.Module.{Module}
 use Rattle.a64_inst.specs.Kinds.{operand_kind}
 use Rattle.sym_expr.specs.declared.difference.DifferenceForm.{DifferenceForm}
 use Rattle.sym_expr.specs.Differences.{form_of}
-use Rattle.sym_expr.specs.Modules.{loaded_intervals, is_code, end_of, covers, bytes_at, interval_of}
+use Rattle.sym_expr.specs.Modules.{loaded_intervals, is_code, end_of, covers, in_order, word_of, interval_of}
 use Rattle.sym_expr.specs.Patches.{no_patches, is_branch}
 use Rattle.sym_expr.specs.Tables.{Tables, expr_size}
 use Rattle.sym_expr.specs.Targets.{Target, Number, Address, Code, Undefined, old_target}
@@ -26,10 +25,6 @@ is_zero z = int_eq z (pos 0)
 abbrev pub is_sum : ExprValue → Bool
 is_sum (values.AddrConst offset symbol) = is_some symbol
 is_sum _ = false
-
--- the word at an offset of an interval
-abbrev pub word_of : Interval → ℕ → ℕ
-word_of i at = from_le_bytes w32 (bytes_at at 4 i)
 
 -- in a code block: a symbol for the operand of a word
 abbrev pub fits_code : Interval → Expr → Bool
@@ -62,9 +57,9 @@ fits_data t i b e =
 abbrev pub fits_block : Tables → Interval → Expr → Block → Bool
 fits_block t i e b = if is_code b then fits_code i e else fits_data t i b e
 
--- the block that has the byte at an offset
+-- the block that has the byte at an offset, the first in block order
 abbrev pub home : Interval → ℕ → Option Block
-home i at = find (covers at) i.blocks
+home i at = find (covers at) (in_order i.blocks)
 
 -- the expression may stand where it does
 abbrev pub is_operand : Tables → Interval → Expr → Bool
@@ -143,5 +138,5 @@ abbrev pub interval_faults : Module → Tables → Interval → List (ℕ × Exp
 interval_faults m t i = filter_map (λ (e : Expr). option_map (λ fault. (e.at, fault)) (expr_fault m t i e)) i.exprs
 
 -- those of the loaded intervals
-abbrev pub expr_faults : Module → Tables → List (List ℕ × (ℕ × ExprFault))
-expr_faults m t = flat_map (λ (i : Interval). map (λ fault. (i.uuid, fault)) (interval_faults m t i)) (loaded_intervals m)
+abbrev pub expr_faults : Module → Tables → List (ℕ × ExprFault)
+expr_faults m t = flat_map (interval_faults m t) (loaded_intervals m)

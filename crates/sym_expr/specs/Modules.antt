@@ -1,5 +1,6 @@
 -- The parts of a module that programs are made of: loaded sections, their intervals and bytes, blocks in order.
-use Rattle.std.specs.Prelude.{ℕ, ◌+◌, ◌-◌, pos, Bool, true, false, ◌==◌, ◌&&◌, ◌||◌, not, nat_lt, nat_le, if◌then◌else◌, List, [], ◌∷◌, ◌++◌, length, take, drop, replicate, filter, find, Option}
+use Rattle.std.specs.Prelude.{ℕ, zero, suc, ◌+◌, ℤ, pos, Bool, true, false, ◌==◌, ◌&&◌, ◌||◌, not, nat_lt, nat_le, if◌then◌else◌, List, [], ◌∷◌, slice_index, filter, find, Option}
+use Rattle.std.specs.Int.{w32, from_le_bytes}
 use Rattle.std.specs.List.{list_any, flat_map}
 use Rattle.std.specs.Ordering.{int_eq}
 use Rattle.std.specs.Str.{bytes_eq}
@@ -77,13 +78,18 @@ abbrev pub in_order : List Block → List Block
 in_order [] = []
 in_order (b ∷ bs) = put_in_order b (in_order bs)
 
--- the bytes of an interval: its contents, and zeros up to its size
-abbrev pub bytes_of : Interval → List ℕ
-bytes_of i = i.contents ++ replicate (i.size - length i.contents) 0
+-- a byte of an interval: of its contents, and 0 behind them
+abbrev pub byte_at : Interval → ℕ → ℕ
+byte_at i at = slice_index i.contents at
 
 -- so many bytes of an interval from an offset on
-abbrev pub bytes_at : ℕ → ℕ → Interval → List ℕ
-bytes_at offset size i = take size (drop offset (bytes_of i))
+abbrev pub bytes_at : Interval → ℕ → ℕ → List ℕ
+bytes_at i at zero = []
+bytes_at i at (suc n) = byte_at i at ∷ bytes_at i (at + 1) n
+
+-- the word at an offset, which is little endian
+abbrev pub word_of : Interval → ℕ → ℕ
+word_of i at = from_le_bytes w32 (bytes_at i at 4)
 
 abbrev pub has_id : List ℕ → Block → Bool
 has_id id b = bytes_eq id (id_of b)

@@ -1,6 +1,5 @@
 -- The program of a module and its patches: all that machines, layouts and images ask, as lists.
 use Rattle.std.specs.Prelude.{ℕ, zero, suc, ◌+◌, ◌-◌, ◌*◌, ◌/◌, pos, Bool, ◌==◌, if◌then◌else◌, List, [], ◌∷◌, ◌++◌, length, map, filter, find, Option, None, Some, unwrap_or}
-use Rattle.std.specs.Int.{w32, from_le_bytes}
 use Rattle.std.specs.List.{flat_map, filter_map, list_any}
 use Rattle.std.specs.Option.{option_map, option_and_then}
 use Rattle.gt_model.specs.declared.exprs.Expr.{Expr}
@@ -17,7 +16,7 @@ use Rattle.sym_expr.specs.declared.patches.PatchWord.{PatchWord}
 use Rattle.sym_expr.specs.declared.point.Point.{Point}
 use Rattle.sym_expr.specs.Derived.{derived, interval_text}
 use Rattle.sym_expr.specs.Differences.{form_of}
-use Rattle.sym_expr.specs.Modules.{loaded_sections, is_code, id_of, size_of, end_of, covers, in_order, bytes_at, has_id}
+use Rattle.sym_expr.specs.Modules.{loaded_sections, is_code, id_of, size_of, end_of, covers, in_order, bytes_at, word_of, has_id}
 use Rattle.sym_expr.specs.Patches.{inserted_in, function_blocks}
 use Rattle.sym_expr.specs.Tables.{Tables, alignment_entry, expr_size}
 use Rattle.sym_expr.specs.Targets.{Target, old_target, word_target, function_block_id, start_of}
@@ -81,7 +80,7 @@ expr_at at i = find (λ (e : Expr). at == e.at) i.exprs
 
 abbrev pub own_word : Module → PatchTable → Interval → ℕ → Word
 own_word m p i at = record {
-  word = from_le_bytes w32 (bytes_at at 4 i);
+  word = word_of i at;
   target = option_and_then (λ (e : Expr). code_target m p e.value) (expr_at at i);
 }
 
@@ -123,7 +122,7 @@ abbrev pub data_block : Module → Tables → PatchTable → Interval → Block 
 data_block m t p i b = record {
   id = id_of b;
   offset = b.offset;
-  bytes = bytes_at b.offset (size_of b) i;
+  bytes = bytes_at i b.offset (size_of b);
   fillings = filter_map (filling_at m t p i b) (filter (λ (e : Expr). covers e.at b) i.exprs);
   alignment = alignment_entry t (id_of b);
 }
@@ -133,7 +132,7 @@ piece m t p i b = if is_code b then CodePiece (code_block m p i b) else DataPiec
 
 -- the bytes from one offset up to another, if there are any
 abbrev pub gap : Interval → ℕ → ℕ → List Piece
-gap i from to = if to - from == 0 then [] else Gap (bytes_at from (to - from) i) ∷ []
+gap i from to = if to - from == 0 then [] else Gap (bytes_at i from (to - from)) ∷ []
 
 -- the pieces from an offset on, with these blocks in order
 abbrev pub pieces : Module → Tables → PatchTable → Interval → ℕ → List Block → List Piece
