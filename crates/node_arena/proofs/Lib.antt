@@ -1,0 +1,4 @@
+pub mod Lists
+pub mod Placed
+pub mod PlacedModules
+pub mod RefLists
