@@ -19,6 +19,3 @@ pub use ir::Ir;
 pub use modules::{Module, Section};
 pub use symbols::{Payload, Symbol};
 pub use tables::Aux;
-
-#[cfg(test)]
-mod tests;

@@ -16,7 +16,7 @@ use Rattle.gt_read.specs.File.{file, format_fault, prefix_fault, body_fault, id_
 use Rattle.gr_base.specs.declared.end.End.{End}
 use Rattle.gr_base.specs.declared.end.End.TheVariants as ends
 use Rattle.gt_read.specs.Reading.{IsFault}
-use Rattle.gt_read.specs.Bodies.{IsBody}
+use Rattle.gt_read.specs.Drafts.Bodies.{IsBody}
 use Rattle.gt_read.proofs.Prefixes.{has_prefix}
 
 -- a prefix that has no fault

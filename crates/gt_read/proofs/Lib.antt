@@ -24,3 +24,6 @@ pub mod PackedLists
 pub mod GoodPieces
 pub mod TypedMeaning
 pub mod TypedIr
+pub mod Entered
+pub mod Joined
+pub mod KeyOrders

@@ -18,7 +18,7 @@ use Rattle.gt_read.specs.declared.fault.FormatFault.{FormatFault}
 use Rattle.gt_read.specs.declared.fault.FormatFault.TheVariants.{Wire}
 use Rattle.gt_read.specs.Pieces.{Bytes, Piece, piece_of, Walk, put_first, walk, pieces}
 use Rattle.gt_read.specs.Faults.{first_of, message_faults, broken_faults}
-use Rattle.gt_read.specs.Reading.{RunWithin, IsFirst, Folds}
+use Rattle.gt_read.specs.Drafts.Answers.{RunWithin, IsFirst, Folds}
 use Rattle.gt_read.proofs.Walks.{OneRecord, walk_takes, walk_fails, walk-nil}
 
 -- a cursor over the bytes of a message

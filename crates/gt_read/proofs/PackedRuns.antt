@@ -10,7 +10,7 @@ use Rattle.gt_read.specs.Kinds.{Packed, put_number, packed_on, packed_within, pa
 use Rattle.gt_read.specs.Faults.{packed_faults, failed_at}
 use Rattle.gt_read.specs.declared.ids.IdFault.{IdFault}
 use Rattle.gt_read.specs.Identifiers.{least, plain_bad}
-use Rattle.gt_read.specs.Drafts.{added_all}
+use Rattle.gt_read.specs.Drafts.Draft.{added_all}
 
 shorter : (b : ℕ) (bs : List ℕ) (n k : ℕ) → length (b ∷ bs) ≤ suc n → 1 ≤ k → length (drop k (b ∷ bs)) ≤ n
 shorter b bs n k h one = omega (arith, length-drop k (b ∷ bs))

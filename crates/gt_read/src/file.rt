@@ -5,7 +5,7 @@ ghost use Rattle.gt_model.specs.Typed.{typed};
 ghost use Rattle.gt_read.specs.declared.fault.FormatFault.TheVariants.{Prefix};
 ghost use Rattle.gt_read.specs.File.{file, format_fault, prefix_fault, body_fault};
 ghost use Rattle.gt_read.specs.Reading.{IsFault};
-ghost use Rattle.gt_read.specs.Bodies.{IsBody};
+ghost use Rattle.gt_read.specs.Drafts.Bodies.{IsBody};
 
 use crate::fault::FormatFault;
 use crate::ids::IdFault;

@@ -1,6 +1,9 @@
 //! Laws of the definitions that contracts cite: each function is its contract.
 
-ghost use Rattle.std.specs.Prelude.{◌≡◌, ◌+◌, ◌<◌, ℕ, List, [], ◌++◌, length, map, Option, Some, None};
+ghost use Rattle.std.specs.Prelude.{◌≡◌, ◌+◌, ◌<◌, ℕ, List, [], ◌∷◌, ◌++◌, length, map, Option, Some, None};
+ghost use Rattle.std.specs.BTreeMap.{is_at};
+ghost use Rattle.std.specs.List.Sorted.{IsStrictlySortedBy};
+ghost use Rattle.std.specs.Map.{lookup};
 ghost use Rattle.pb_wire.specs.declared.fault.WireFault.{WireFault};
 ghost use Rattle.pb_wire.specs.declared.fault.WireReason.{WireReason};
 ghost use Rattle.pb_wire.specs.declared.records.Record.{Record};
@@ -10,11 +13,14 @@ ghost use Rattle.pb_wire.specs.Records.{records, Takes};
 ghost use Rattle.pb_wire.specs.Varint.{IsVarint, varints};
 ghost use Rattle.gt_model.specs.declared.ir.Ir.{Ir};
 ghost use Rattle.gt_model.specs.Ordered.{ordered};
+ghost use Rattle.gt_model.specs.Schema.{Key, key_kind, Rows, ir_rows};
 ghost use Rattle.gt_model.specs.Typed.{AreBytes, typed};
 ghost use Rattle.gt_read.specs.declared.fault.FormatFault.{FormatFault};
 ghost use Rattle.gt_read.specs.File.{file, format_fault};
-ghost use Rattle.gt_read.specs.Kinds.{packed, put_number};
-ghost use Rattle.gt_read.specs.Pieces.{piece_of, pieces, broken, walk, put_first};
+ghost use Rattle.gt_read.specs.Joining.{Entry, HasNone, ir_join};
+ghost use Rattle.gt_read.specs.Kinds.{Read, packed, put_number};
+ghost use Rattle.gt_read.specs.Meaning.{key_cmp, map_of, meaning};
+ghost use Rattle.gt_read.specs.Pieces.{Piece, piece_of, pieces, broken, walk, put_first};
 
 /// The pieces of bytes are the records of the list that spells them, and nothing is broken; where
 /// there is a wire fault, they are the records before it, and it is what is broken.
@@ -71,3 +77,18 @@ pub fn a_file_is_typed()
     pb_wire::laws::varints_are_read();
     pb_wire::laws::varint_fits();
 }
+
+/// The keys of a map ascend strictly, and each has the value of its last entry.
+pub fn each_key_has_its_last_value()
+    ensures order { (k : Key) (rows : Rows) (es : List (Entry k rows)) →
+        IsStrictlySortedBy (key_cmp k) (map (λ (e : Entry k rows). e.0) (map_of (key_cmp k) es)) }
+    ensures last { (k : Key) (rows : Rows) (before after : List (Entry k rows)) (e : Entry k rows) → HasNone k rows e.0 after →
+        lookup (is_at (key_cmp k e.0)) (map_of (key_cmp k) (before ++ e ∷ after)) ≡ Some e.1 }
+    ensures none { (k : Key) (rows : Rows) (es : List (Entry k rows)) (key : Read (key_kind k)) → HasNone k rows key es →
+        lookup (is_at (key_cmp k key)) (map_of (key_cmp k) es) ≡ None }
+{}
+
+/// The meaning of the records of two parts of an IR, behind one another, joins those of the parts.
+pub fn parts_are_joined()
+    ensures { (first second : List Piece) → meaning ir_rows 0 (first ++ second) ≡ ir_join second (meaning ir_rows 0 first) (meaning ir_rows 0 second) }
+{}

@@ -27,6 +27,3 @@ mod tables;
 
 pub use fault::FormatFault;
 pub use file::read_file;
-
-#[cfg(test)]
-mod tests;

@@ -3,7 +3,7 @@ ghost use Rattle.gt_read.specs.Pieces.{Piece as SpecPiece, pieces};
 ghost use Rattle.gt_read.specs.declared.fault.FormatFault.{FormatFault};
 ghost use Rattle.gt_read.specs.declared.ids.IdFault.{IdFault};
 ghost use Rattle.gt_read.specs.Faults.{message_faults};
-ghost use Rattle.gt_read.specs.Reading.{piece, Answers, Folds, WasRead};
+ghost use Rattle.gt_read.specs.Drafts.Answers.{piece, Answers, Folds, WasRead};
 
 use crate::carry::carry;
 use crate::fault::FormatFault;

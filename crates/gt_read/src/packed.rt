@@ -2,10 +2,10 @@
 
 ghost use Rattle.std.specs.Prelude.{◌≡◌, ◌++◌, None};
 ghost use Rattle.gt_model.specs.Schema.{Signed32};
-ghost use Rattle.gt_read.specs.Drafts.{added_all};
+ghost use Rattle.gt_read.specs.Drafts.Draft.{added_all};
 ghost use Rattle.gt_read.specs.Faults.{packed_faults, in_run};
 ghost use Rattle.gt_read.specs.Kinds.{values_of, packed, packed_signed};
-ghost use Rattle.gt_read.specs.Reading.{piece, Answers};
+ghost use Rattle.gt_read.specs.Drafts.Answers.{piece, Answers};
 
 use crate::fault::FormatFault;
 use crate::pieces::{Carried, Piece};

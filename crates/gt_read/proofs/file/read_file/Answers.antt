@@ -1,6 +1,6 @@
 use Rattle.std.proofs.Common.{sym, subst, arith}
 use Rattle.std.proofs.lemmas.Result.{err_from_is_err_and}
-use Rattle.gt_read.specs.Bodies.{IsBody}
+use Rattle.gt_read.specs.Drafts.Bodies.{IsBody}
 use Rattle.gt_read.specs.Reading.{IsFault}
 use Rattle.gt_model.specs.Typed.{AreBytes}
 use Rattle.gt_read.specs.File.{file, body_fault, version_byte}
