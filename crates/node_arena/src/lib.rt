@@ -7,6 +7,7 @@ mod draft;
 mod fault;
 mod graph;
 mod ids;
+mod index;
 mod nodes;
 mod refs;
 
