@@ -1,24 +1,14 @@
 -- Numbers of bytes that are read.
-use Rattle.std.proofs.Common.{◌≡◌, ℕ, zero, suc, ◌+◌, ◌-◌, ◌<◌, ◌≤◌, true, List, [], ◌∷◌, ◌++◌, length, get_or, set, replicate, take, drop, map, Some, refl, sym, ap, ◌∙◌, append_assoc, arith}
+use Rattle.std.proofs.Common.{◌≡◌, ℕ, zero, suc, ◌+◌, ◌-◌, ◌<◌, ◌≤◌, true, List, [], ◌∷◌, ◌++◌, length, get_or, set, replicate, Some, refl, sym, ap, ◌∙◌, append_assoc, arith}
 use Rattle.std.specs.Prelude.{unwrap_or}
 use Rattle.std.specs.Int.{w32, w64, from_le_bytes}
 use Rattle.std.proofs.lemmas.List.{set_at, length-append, length-replicate}
 use Rattle.std.proofs.lemmas.List.FromFn.{length-map-range_with_len}
-use Rattle.num_run.specs.declared.region.Region.{Region}
-use Rattle.num_run.specs.Machine.{Mapping, byte_in, is_mapped, bytes_from, number_of, number_at}
-use Rattle.num_run.specs.Mapped.{segment_of, Ascend, HasAll}
+use Rattle.num_run.specs.Machine.{Mapping, is_mapped, bytes_from, number_of, number_at}
 use Rattle.num_run.proofs.Spans.{bytes_from-more}
-use Rattle.num_run.proofs.Lookups.{bytes_in}
-use Rattle.num_run.proofs.Writes.{is_mapped-has}
 
 pub number_is : (m : Mapping) (at count n : ℕ) → is_mapped m at count ≡ true → n ≡ number_of (bytes_from m at count) → Some n ≡ number_at m at count
 number_is m at count n all value = rw (value, all) refl
-
--- the number of bytes that one region has
-pub number_in : (regions : List Region) (index at count n : ℕ) (region : Region) → Ascend regions → index < length regions → region ≡ get_or regions index region → HasAll at count region
-    → n ≡ number_of (take count (drop (at - region.at) region.bytes.items)) → Some n ≡ number_at (byte_in (map segment_of regions)) at count
-number_in regions index at count n region ascend within is has value =
-    number_is (byte_in (map segment_of regions)) at count n (is_mapped-has regions index at count region ascend within is has) (value ∙ ap number_of (bytes_in regions index at count region ascend within is has))
 
 -- zeros behind are worth nothing
 zeros_behind : (xs : List ℕ) (n : ℕ) → number_of (xs ++ replicate n 0) ≡ number_of xs

@@ -1,8 +1,8 @@
 -- Bytes from an address on, in what stands at each address.
-use Rattle.std.proofs.Common.{◌≡◌, ℕ, zero, suc, ◌+◌, ◌-◌, ◌<◌, ◌≤◌, Bool, true, false, ◌&&◌, List, [], ◌∷◌, ◌++◌, length, Option, refl, sym, ap, subst, ◌∙◌, inl, inr, add-zero, arith}
+use Rattle.std.proofs.Common.{◌≡◌, ℕ, zero, suc, ◌+◌, ◌-◌, ◌<◌, ◌≤◌, Bool, true, false, ◌&&◌, List, [], ◌∷◌, ◌++◌, length, Option, Some, None, refl, sym, ap, subst, ◌∙◌, inl, inr, add-zero, append_assoc, arith}
 use Rattle.std.specs.Prelude.{is_some, unwrap_or}
 use Rattle.std.proofs.lemmas.Bool.{le-leb, lt-leb, lt-ltb, le-ltb, cases_lt, cases_eq, true≢false}
-use Rattle.std.proofs.lemmas.List.{length_push, get_or_push, get_or_append_left}
+use Rattle.std.proofs.lemmas.List.{length_push, append-nil, length-append, get_or_push, get_or_append_left, get_or-append_right}
 use Rattle.std.proofs.lemmas.List.FromFn.{map-range_with_len_more}
 use Rattle.std.proofs.Math.Path.{fun_ext}
 use Rattle.num_run.specs.Machine.{Mapping, is_mapped, bytes_from, with_bytes}
@@ -77,3 +77,47 @@ with_bytes-none m at =
       | inl below ↦ rw (lt-leb at a below) refl
       | inr low ↦ with_bytes-behind m at [] a (omega arith)
     ])
+
+-- more bytes are put behind
+pub with_bytes-append : (m : Mapping) (at : ℕ) (bytes more : List ℕ) → with_bytes (with_bytes m at bytes) (at + length bytes) more ≡ with_bytes m at (bytes ++ more)
+with_bytes-append m at bytes more =
+    fun_ext (λ a. elim (cases_lt a at) [
+      | inl below ↦ rw (lt-leb at a below, lt-leb (at + length bytes) a (omega arith)) refl
+      | inr low ↦
+          elim (cases_lt a (at + length bytes)) [
+            | inl inside ↦
+                rw (le-leb at a low, lt-leb (at + length bytes) a inside, lt-ltb a (at + length bytes) inside, lt-ltb a (at + length (bytes ++ more)) (omega (arith, length-append bytes more)), get_or_append_left bytes more 0 (a - at) (omega arith)) refl
+            | inr behind ↦
+                elim (cases_lt a (at + length bytes + length more)) [
+                  | inl here ↦
+                      let offset : a - (at + length bytes) ≡ a - at - length bytes = omega arith in
+                      rw (le-leb at a low, le-leb (at + length bytes) a behind, lt-ltb a (at + length bytes + length more) here, lt-ltb a (at + length (bytes ++ more)) (omega (arith, length-append bytes more)), offset)
+                      (sym (ap (λ (n : ℕ). Some n) (get_or-append_right bytes more (length bytes) (a - at) 0 refl (omega arith))))
+                  | inr beyond ↦
+                      rw (le-leb at a low, le-ltb a (at + length bytes) behind, le-leb (at + length bytes) a behind, le-ltb a (at + length bytes + length more) beyond, le-ltb a (at + length (bytes ++ more)) (omega (arith, length-append bytes more))) refl
+                ]
+          ]
+    ])
+
+-- as many bytes in two pieces
+pub bytes_from-append : (m : Mapping) (at count more : ℕ) → bytes_from m at (count + more) ≡ bytes_from m at count ++ bytes_from m (at + count) more
+bytes_from-append m at count zero = ap (bytes_from m at) (add-zero count) ∙ sym (append-nil (bytes_from m at count))
+bytes_from-append m at count (suc more) =
+    let place : count + suc more ≡ count + more + 1 = omega arith in
+    let here : at + count + more ≡ at + (count + more) = omega arith in
+    let next : suc more ≡ more + 1 = omega arith in
+    ap (bytes_from m at) place ∙ bytes_from-more m at (count + more) ∙ ap (λ (xs : List ℕ). xs ++ unwrap_or (m (at + (count + more))) 0 ∷ []) (bytes_from-append m at count more)
+    ∙ append_assoc (bytes_from m at count) (bytes_from m (at + count) more) (unwrap_or (m (at + (count + more))) 0 ∷ [])
+    ∙ ap (λ (xs : List ℕ). bytes_from m at count ++ xs) (ap (λ (a : ℕ). bytes_from m (at + count) more ++ unwrap_or (m a) 0 ∷ []) (sym here) ∙ sym (bytes_from-more m (at + count) more) ∙ ap (bytes_from m (at + count)) (sym next))
+
+-- each is mapped in two pieces
+pub each-more : (m : Mapping) (at count more : ℕ) → ((k : ℕ) → k < count → is_some (m (at + k)) ≡ true) → ((k : ℕ) → k < more → is_some (m (at + count + k)) ≡ true) → (k : ℕ) → k < count + more → is_some (m (at + k)) ≡ true
+each-more m at count more first second k lt =
+    elim (cases_lt k count) [
+      | inl before ↦ first k before
+      | inr behind ↦ let place : at + count + (k - count) ≡ at + k = omega arith in subst (λ (a : ℕ). is_some (m a) ≡ true) place (second (k - count) (omega arith))
+    ]
+
+-- a byte that is mapped is no missing one
+pub is_mapped-none : (m : Mapping) (at count k : ℕ) → is_mapped m at count ≡ true → k < count → m (at + k) ≡ None → ⊥
+is_mapped-none m at count k all lt none = true≢false (sym (is_mapped-at m at count all k lt) ∙ ap is_some none)

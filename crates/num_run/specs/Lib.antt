@@ -5,3 +5,6 @@ pub mod Run
 pub mod Mapped
 pub mod Runner
 pub mod Results
+pub mod Decoded
+pub mod Opened
+pub mod Running

@@ -1,46 +1,77 @@
 -- The memory of a runner as what stands at each address.
-use Rattle.std.specs.Prelude.{ℕ, ◌+◌, ◌≤◌, ◌<◌, ◌^◌, List, ◌++◌, map, length, take, drop, All, AllPairs}
-use Rattle.std.specs.List.{HoldsAt}
-use Rattle.link_image.specs.declared.image.Segment.{Segment}
-use Rattle.link_image.specs.Valid.{end_of}
-use Rattle.num_run.specs.declared.region.Region.{Region}
+use Rattle.std.specs.Prelude.{◌≡◌, ℕ, ◌+◌, ◌-◌, ◌≤◌, ◌<◌, ◌^◌, ◌&&◌, nat_le, nat_lt, if◌then◌else◌, List, [], ◌∷◌, ◌++◌, length, take, drop, slice_index, All, AllPairs, Option, Some, None}
+use Rattle.std.specs.Option.{option_map, option_or}
+use Rattle.num_run.specs.declared.part.Part.{Part}
+use Rattle.num_run.specs.declared.pages.Pages.{Pages}
 use Rattle.num_run.specs.declared.memory.Memory.{Memory}
-use Rattle.num_run.specs.Machine.{Mapping, byte_in}
+use Rattle.num_run.specs.declared.memory.TheConstants.{RECENT}
+use Rattle.num_run.specs.Machine.{Mapping}
 
--- a region as a segment
-abbrev pub segment_of : Region → Segment
-segment_of region = record { at = region.at; bytes = region.bytes.items }
+-- the address after a part's last byte
+abbrev pub end_of : Part → ℕ
+end_of part = part.at + part.count
+
+-- where the byte of an address stands in the list of bytes
+abbrev pub place_of : List Part → ℕ → Option ℕ
+place_of [] at = None
+place_of (part ∷ parts) at = if nat_le part.at at && nat_lt at (end_of part) then Some (part.start + (at - part.at)) else place_of parts at
 
 -- the byte at each address
+abbrev pub mapped_by : List Part → List ℕ → Mapping
+mapped_by parts bytes at = option_map (slice_index bytes) (place_of parts at)
+
+-- the same of pages, and of a memory
+abbrev pub paged : Pages → Mapping
+paged pages = mapped_by pages.parts.items pages.bytes.items
+
 abbrev pub mapped : Memory → Mapping
-mapped memory = byte_in (map segment_of memory.regions.items)
+mapped memory = paged memory.pages
 
--- an address lies in a region
-pub record Has (at : ℕ) (region : Region) : Type 0 where
-  pub low : region.at ≤ at
-  pub high : at < end_of (segment_of region)
+-- parts of a list of so many bytes, one behind the other in the list and by address
+pub record IsIndex (parts : List Part) (size : ℕ) : Type 0 where
+  pub apart : AllPairs (λ part later. end_of part ≤ later.at) parts
+  pub packed : AllPairs (λ part later. part.start + part.count ≤ later.start) parts
+  pub within : All (λ part. part.start + part.count ≤ size) parts
+  pub high : All (λ part. end_of part < 2 ^ 64) parts
 
--- so many addresses from one on lie in a region
-pub record HasAll (at count : ℕ) (region : Region) : Type 0 where
-  pub low : region.at ≤ at
-  pub high : at + count ≤ end_of (segment_of region)
+-- the bytes of a part stand one behind the other in the list of so many bytes
+pub record Shows (parts : List Part) (size : ℕ) (part : Part) : Type 0 where
+  pub places : (k : ℕ) → k < part.count → place_of parts (part.at + k) ≡ Some (part.start + k)
+  pub within : part.start + part.count ≤ size
+  pub high : end_of part < 2 ^ 64
 
--- a list with these elements from an offset on in place of its own
-abbrev pub with_part : List ℕ → ℕ → List ℕ → List ℕ
-with_part old offset part = take offset old ++ part ++ drop (offset + length part) old
+-- the pages of a memory are indexed
+abbrev pub IsPages : Pages → Type 0
+IsPages pages = IsIndex pages.parts.items (length pages.bytes.items)
 
--- each region ends where the next begins or below, and below 2 ^ 64
-pub record Ascend (regions : List Region) : Type 0 where
-  pub apart : AllPairs (λ region later. end_of (segment_of region) ≤ later.at) regions
-  pub high : All (λ region. end_of (segment_of region) < 2 ^ 64) regions
+-- a part of these pages
+abbrev pub IsPart : Pages → Part → Type 0
+IsPart pages part = Shows pages.parts.items (length pages.bytes.items) part
 
--- the regions are in order, and there are those that were used last
+-- the parts that were used last are parts of the pages
 pub record IsMemory (memory : Memory) : Type 0 where
-  pub regions : Ascend memory.regions.items
-  pub last_code : memory.last_code < length memory.regions.items
-  pub last_data : memory.last_data < length memory.regions.items
+  pub pages : IsPages memory.pages
+  pub code : IsPart memory.pages memory.code
+  pub recent : All (IsPart memory.pages) memory.recent.items
+  pub slots : length memory.recent.items ≡ RECENT
 
--- the region at this index has the address
-pub record HasAt (regions : List Region) (index at : ℕ) : Type 0 where
-  pub within : index < length regions
-  pub has : HoldsAt (Has at) regions index
+-- an address lies in a part
+pub record Has (at : ℕ) (part : Part) : Type 0 where
+  pub low : part.at ≤ at
+  pub high : at < end_of part
+
+-- so many bytes from an address on, which stand from a place on
+abbrev pub stretch : (at count place : ℕ) → Part
+stretch at count place = record { at = at; count = count; start = place }
+
+-- a list with these elements from a place on in place of its own
+abbrev pub with_part : List ℕ → ℕ → List ℕ → List ℕ
+with_part old place new = take place old ++ new ++ drop (place + length new) old
+
+-- no part ends behind an address
+abbrev pub EndBy : ℕ → Pages → Type 0
+EndBy at pages = All (λ part. end_of part ≤ at) pages.parts.items
+
+-- what one mapping has, and where it has nothing what another has
+abbrev pub beside : Mapping → Mapping → Mapping
+beside first second at = option_or (first at) (second at)

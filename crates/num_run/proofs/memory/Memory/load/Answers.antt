@@ -1,7 +1,16 @@
-use Rattle.std.proofs.Common.{◌^◌}
-use Rattle.num_run.proofs.Loads.{number_in}
+use Rattle.std.proofs.Common.{◌^◌, arith}
+use Rattle.num_run.specs.Mapped.{stretch}
+use Rattle.num_run.proofs.Memories.{found_shows}
+use Rattle.num_run.proofs.Stretches.{number_shown}
 use Rattle.num_run.proofs.memory.Memory.load.Goals as goal
+
+pub number-requires-clause-within : goal.number-requires-clause-within
+number-requires-clause-within c =
+    let shows = rw c.byte_count.ensures.count at (found_shows c.args.self.now c.slot.result c.args.at c.byte_count.result c.in-Some.place c.index.result.now c.requires.memory c.slot.ensures c.index.ensures c.in-Some.ensures) in
+    omega (arith, shows.within, c.args.self.now.pages.bytes.ok.0)
 
 pub returns-in-Some-clause-number : goal.returns-in-Some-clause-number
 returns-in-Some-clause-number c =
-    number_in c.args.self.now.regions.items c.args.self.now.last_data c.args.at (2 ^ c.args.size) c.in-Some.number c.index.result.now c.requires.memory.regions c.requires.memory.last_data c.index.ensures c.in-Some.ensures.has c.in-Some.ensures.number
+    let pages = c.args.self.now.pages in
+    let shows = rw c.byte_count.ensures.count at (found_shows c.args.self.now c.slot.result c.args.at c.byte_count.result c.in-Some.place c.index.result.now c.requires.memory c.slot.ensures c.index.ensures c.in-Some.ensures) in
+    number_shown pages.parts.items pages.bytes.items (stretch c.args.at (2 ^ c.args.size) c.in-Some.place) shows c.number.result c.number.ensures.number

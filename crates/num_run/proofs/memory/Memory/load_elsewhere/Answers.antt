@@ -1,7 +1,16 @@
-use Rattle.std.proofs.Common.{◌^◌}
-use Rattle.num_run.proofs.Loads.{number_in}
+use Rattle.std.proofs.Common.{◌^◌, arith}
+use Rattle.num_run.specs.Mapped.{stretch}
+use Rattle.num_run.proofs.Stretches.{number_shown}
 use Rattle.num_run.proofs.memory.Memory.load_elsewhere.Goals as goal
+
+pub number-requires-clause-within : goal.number-requires-clause-within
+number-requires-clause-within c =
+    let pages = c.args.self.now.pages in
+    let shows = rw c.byte_count.ensures.count at (c.in-Some.ensures pages.parts.items _ c.in_ok-look_up.ensures.part) in
+    rw c.look_up.ensures.same (omega (arith, shows.within, pages.bytes.ok.0))
 
 pub returns-in-Some-clause-number : goal.returns-in-Some-clause-number
 returns-in-Some-clause-number c =
-    number_in c.args.self.now.regions.items c.in_ok-self.field-0 c.args.at (2 ^ c.args.size) c.in-Some.number c.index.result.now c.requires.memory.regions c.in_ok-self.ensures.within c.index.ensures c.in-Some.ensures.has c.in-Some.ensures.number
+    let pages = c.args.self.now.pages in
+    let shows = rw c.byte_count.ensures.count at (c.in-Some.ensures pages.parts.items _ c.in_ok-look_up.ensures.part) in
+    number_shown pages.parts.items pages.bytes.items (stretch c.args.at (2 ^ c.args.size) c.in-Some.place) shows c.number.result (rw c.look_up.ensures.same at c.number.ensures.number)

@@ -1,6 +1,15 @@
-use Rattle.num_run.proofs.Loads.{number_in}
+use Rattle.std.proofs.Common.{arith}
+use Rattle.num_run.specs.Mapped.{stretch}
+use Rattle.num_run.proofs.Stretches.{number_shown}
 use Rattle.num_run.proofs.memory.Memory.word.Goals as goal
+
+pub number-requires-clause-within : goal.number-requires-clause-within
+number-requires-clause-within c =
+    let pages = c.args.self.now.pages in
+    let shows = c.in-Some.ensures pages.parts.items _ c.requires.code in
+    omega (arith, shows.within, pages.bytes.ok.0)
 
 pub returns-in-Some-clause-word : goal.returns-in-Some-clause-word
 returns-in-Some-clause-word c =
-    number_in c.args.self.now.regions.items c.args.self.now.last_code c.args.at 4 c.in-Some.word c.index.result.now c.requires.regions c.requires.last_code c.index.ensures c.in-Some.ensures.has c.in-Some.ensures.number
+    let pages = c.args.self.now.pages in
+    number_shown pages.parts.items pages.bytes.items (stretch c.args.at 4 c.in-Some.place) (c.in-Some.ensures pages.parts.items _ c.requires.code) c.number.result c.number.ensures.number
