@@ -14,9 +14,8 @@ use Rattle.gt_front.specs.declared.answer.Role.{Role}
 use Rattle.gt_front.specs.declared.answer.Role.TheVariants.{In, Input}
 use Rattle.gt_front.specs.declared.table.Job.{Job}
 use Rattle.gt_front.specs.declared.table.Job.TheVariants.{Recode, Run}
-use Rattle.gt_front.specs.declared.words.Settings.{Settings}
 use Rattle.gt_front.specs.Inputs.{AllHeld, Contents, HoldBytes, bytes_in, contents_of, inputs_of}
-use Rattle.gt_front.specs.Outcome.{Pass, Outcome, Verdict, makes}
+use Rattle.gt_front.specs.Outcome.{Pass, Outcome, Verdict, makes_as}
 use Rattle.gt_front.specs.Picked.{Picked, asked, picked, settings_of}
 use Rattle.gt_front.specs.Recode.{written}
 use Rattle.gt_front.specs.Run.{reported}
@@ -28,30 +27,30 @@ use Rattle.gt_front.proofs.Chains.{chain_one, just_one, meant_one, imaged_one, c
 module _ (meaning : (bytes : List ℕ) (a b : Ir) → file bytes a → file bytes b → a ≡ b)
     (image : (a b : AnImage) (bytes : List ℕ) → image_bytes a bytes → image_bytes b bytes → a ≡ b)
     (fault : (bytes : List ℕ) (a b : ℕ) → image_fault bytes a → image_fault bytes b → a ≡ b) where
-  makes_one : (job : Job) (settings : Settings) (passes : List Pass) (contents : Contents) → GivesOne (makes job settings passes contents)
-  makes_one Recode settings passes contents =
+  makes_one : (job : Job) (asked : Picked) (passes : List Pass) (contents : Contents) → GivesOne (makes_as job asked passes contents)
+  makes_one Recode asked passes contents =
       chain_one (meant (bytes_in contents In)) (λ ir. just (written (canonical ir)))
       (meant_one meaning (bytes_in contents In)) (λ ir. just_one (written (canonical ir)))
-  makes_one Run settings passes contents =
-      let report : AnImage → _ = λ x. reported (num_run x (bytes_in contents Input) settings.steps) in
+  makes_one Run asked passes contents =
+      let report : AnImage → _ = λ x. reported (num_run x (bytes_in contents Input) asked.settings.steps) in
       chain_one (imaged (bytes_in contents In)) (λ x. just (report x))
       (imaged_one image fault (bytes_in contents In)) (λ x. just_one (report x))
 
   pub outcome_one : (asked : Option Picked) (passes : List Pass) (files : Files) (a b : Verdict) → Outcome asked passes files a → Outcome asked passes files b → a ≡ b
   outcome_one None passes files a b x y = absurd x
-  outcome_one (Some asked) passes files a b x y = makes_one asked.job asked.settings passes (contents_of asked files) a b x.makes y.makes
+  outcome_one (Some asked) passes files a b x y = makes_one asked.job asked passes (contents_of asked files) a b x.makes y.makes
 
 module _ (found : (bytes : List ℕ) → format_fault bytes ≡ None → (ir : Ir) × file bytes ir)
     (excluded : (bytes : List ℕ) (fault : FormatFault) (ir : Ir) → format_fault bytes ≡ Some fault → file bytes ir → ⊥)
     (some : (bytes : List ℕ) → AreBytes bytes → ((image : AnImage) × image_bytes image bytes) ⊎ ((place : ℕ) × image_fault bytes place))
     (apart : (bytes : List ℕ) (image : AnImage) (place : ℕ) → image_bytes image bytes → image_fault bytes place → ⊥) where
-  makes_some : (job : Job) (settings : Settings) (passes : List Pass) (contents : Contents) → ((role : Role) → AreBytes (bytes_in contents role))
-      → GivesSome (makes job settings passes contents)
-  makes_some Recode settings passes contents are =
+  makes_some : (job : Job) (asked : Picked) (passes : List Pass) (contents : Contents) → ((role : Role) → AreBytes (bytes_in contents role))
+      → GivesSome (makes_as job asked passes contents)
+  makes_some Recode asked passes contents are =
       chain_some (meant (bytes_in contents In)) (λ ir. just (written (canonical ir)))
       (meant_some found excluded (bytes_in contents In)) (λ ir h. just_some (written (canonical ir)))
-  makes_some Run settings passes contents are =
-      let report : AnImage → _ = λ x. reported (num_run x (bytes_in contents Input) settings.steps) in
+  makes_some Run asked passes contents are =
+      let report : AnImage → _ = λ x. reported (num_run x (bytes_in contents Input) asked.settings.steps) in
       chain_some (imaged (bytes_in contents In)) (λ x. just (report x))
       (imaged_some some apart (bytes_in contents In) (are In)) (λ x h. just_some (report x))
 
@@ -79,5 +78,5 @@ module _ (found : (bytes : List ℕ) → format_fault bytes ≡ None → (ir : I
       let p = picked_some words ok.whole in
       subst (λ (o : Option Picked). AllHeld (inputs_of o) files → (verdict : Verdict) × Outcome o passes files verdict) (sym p.1)
       (λ held.
-      let made = makes_some p.0.job p.0.settings passes (contents_of p.0 files) (λ role. are_bytes files hold (p.0.file role)) in
+      let made = makes_some p.0.job p.0 passes (contents_of p.0 files) (λ role. are_bytes files hold (p.0.file role)) in
       (made.0, record { held = held; makes = made.1 }))

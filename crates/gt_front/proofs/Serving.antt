@@ -46,21 +46,21 @@ part_after None out o m n same w = λ other. w other ∙ same other
 module _ (asked : Picked) (d : Around) (c : declared.Contents) (all : Told d.old (AllReadable (files_as asked ROLES))) (holds : Told d.old (HoldsAll asked c))
     (one : (asked : Option Picked) (passes : List Pass) (held : Files) (a b : Verdict) → Outcome asked passes held a → Outcome asked passes held b → a ≡ b) where
   -- what a job makes of the contents that were read is its outcome
-  outcome_is : (verdict : Verdict) → makes asked.job asked.settings [] (contents_view c) verdict → Told d.old (λ held. Outcome (Some asked) [] held verdict)
+  outcome_is : (verdict : Verdict) → makes asked [] (contents_view c) verdict → Told d.old (λ held. Outcome (Some asked) [] held verdict)
   outcome_is verdict m = told_map2 d.old _ _ _ (λ held readable h. record {
     held = all_held held (files_as asked ROLES) readable;
-    makes = subst (λ (k : Contents). makes asked.job asked.settings [] k verdict) (λ i role. h role i) m;
+    makes = subst (λ (k : Contents). makes asked [] k verdict) (λ i role. h role i) m;
   }) all holds
 
   promised_is : Promises asked.job (contents_view c) → Told d.old (Promised (Some asked))
   promised_is k = told_map d.old _ _ (λ held h. subst (λ (x : Contents). Promises asked.job x) (λ i role. h role i) k) holds
 
-  pub serves_refused : (refusal : Refusal) → makes asked.job asked.settings [] (contents_view c) (Err refusal) → ToldBoth d.old d.new SameFiles
+  pub serves_refused : (refusal : Refusal) → makes asked [] (contents_view c) (Err refusal) → ToldBoth d.old d.new SameFiles
       → Served (Some asked) [] d (answer_of refusal)
   serves_refused refusal m same = refused (Some asked) [] d (one (Some asked) []) all refusal (outcome_is (Err refusal) m) same
 
   module _ (mid : Option Files) (mid_steady : Bool) (mid_write : ℕ) (same : ToldBoth d.old mid SameFiles) (steady : mid_steady ≡ d.steady)
-      (later : d.write_before ≤ mid_write) (finished : Finished) (made : makes asked.job asked.settings [] (contents_view c) (Ok finished))
+      (later : d.write_before ≤ mid_write) (finished : Finished) (made : makes asked [] (contents_view c) (Ok finished))
       (name : Option (List ℕ)) (named : name ≡ asked.out) where
     pub serves_done : (text : List ℕ) → Promises asked.job (contents_view c) → Writes name finished mid_steady mid_write d.write_now mid d.new (Ok text)
         → Served (Some asked) [] d (Done text)

@@ -6,7 +6,6 @@ use Rattle.gt_front.specs.declared.table.Job.{Job}
 use Rattle.gt_front.specs.declared.table.Job.TheVariants.{Recode, Run}
 use Rattle.gt_front.specs.declared.verdict.Finished.{Finished}
 use Rattle.gt_front.specs.declared.verdict.Refusal.{Refusal}
-use Rattle.gt_front.specs.declared.words.Settings.{Settings}
 use Rattle.gt_front.specs.Inputs.{Contents, AllHeld, files_as, contents_of}
 use Rattle.gt_front.specs.Picked.{Picked}
 use Rattle.gt_front.specs.Stages.{Stage}
@@ -21,12 +20,16 @@ Pass = ⊥
 abbrev pub Verdict : Type 0
 Verdict = Result Finished Refusal
 
--- what each job makes of its settings, the passes and the contents of its inputs
-abbrev pub makes : Job → Settings → List Pass → Contents → Stage Finished
-makes Recode settings passes contents = Recodes contents
-makes Run settings passes contents = Runs settings contents
+-- what each job makes of the values of its words, the passes and the contents of its inputs
+abbrev pub makes_as : Job → Picked → List Pass → Contents → Stage Finished
+makes_as Recode asked passes contents = Recodes contents
+makes_as Run asked passes contents = Runs asked.settings contents
 
--- what is known besides of a job that is done with these contents
+-- what the job that is asked for makes
+abbrev pub makes : Picked → List Pass → Contents → Stage Finished
+makes asked passes contents = makes_as asked.job asked passes contents
+
+-- what each job promises beside that, where it is done with these contents
 abbrev pub Promises : Job → Contents → Type 0
 Promises Recode contents = ReadsBack contents
 Promises Run contents = Unit {0}
@@ -38,14 +41,14 @@ Outcomes = Files → Verdict → Type 0
 -- what a job that was asked for makes of the files
 pub record OutcomeOf (asked : Picked) (passes : List Pass) (files : Files) (verdict : Verdict) : Type 0 where
   pub held : AllHeld (files_as asked ROLES) files
-  pub makes : makes asked.job asked.settings passes (contents_of asked files) verdict
+  pub makes : makes asked passes (contents_of asked files) verdict
 
 -- the outcome of what the words ask for
 abbrev pub Outcome : Option Picked → List Pass → Outcomes
 Outcome None passes files verdict = ⊥
 Outcome (Some asked) passes files verdict = OutcomeOf asked passes files verdict
 
--- what is known besides of the files where a job is done
+-- what the job that is asked for promises, where it is done
 abbrev pub Promised : Option Picked → Files → Type 0
 Promised None files = Unit {0}
 Promised (Some asked) files = Promises asked.job (contents_of asked files)

@@ -55,7 +55,7 @@ impl Answer {
     }
 
     /// The answer where an input wasn't read.
-    pub fn unread(unread: Unread) -> Answer
+    pub(crate) fn unread(unread: Unread) -> Answer
         ensures { result ≡ unread_answer unread.role unread.end }
     {
         match unread.end {
@@ -66,7 +66,7 @@ impl Answer {
     }
 
     /// The answer of a job that refused.
-    pub fn refused(refusal: Refusal) -> Answer
+    pub(crate) fn refused(refusal: Refusal) -> Answer
         ensures { result ≡ answer_of refusal }
     {
         match refusal {

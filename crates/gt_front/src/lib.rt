@@ -21,4 +21,3 @@ pub use answer::{Answer, Role};
 pub use gt_read::FormatFault;
 pub use note::note_text;
 pub use serve::serve_words;
-pub use table::{Job, WordName};

@@ -25,7 +25,7 @@ use std::alloc::Global;
 /// Does a job with the contents of its inputs.
 fn make(alloc: Global, asked: &Picked<'_>, contents: &Contents) -> Result<Finished, End<Refusal>>
     requires { InBounds asked.now.settings }
-    ensures stage { Answers (makes asked.now.job asked.now.settings [] (contents_view contents.now)) result }
+    ensures stage { Answers (makes (picked_view asked.now) [] (contents_view contents.now)) result }
     ensures promises { OnOk result (Promises asked.now.job (contents_view contents.now)) }
 {
     match asked.job {
