@@ -6,6 +6,7 @@ mod edges;
 mod exprs;
 mod intervals;
 mod ir;
+pub mod laws;
 mod modules;
 mod symbols;
 mod tables;

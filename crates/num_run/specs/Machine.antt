@@ -1,7 +1,7 @@
 -- A machine whose values are numbers: what it holds between two instructions.
 use Rattle.std.specs.Prelude.{ℕ, zero, suc, ◌+◌, ◌-◌, ◌*◌, ◌/◌, ◌%◌, Bool, ◌&&◌, nat_le, nat_lt, if◌then◌else◌, List, [], ◌∷◌, map, replicate, length, Option, Some, None, is_some, unwrap_or, slice_index, slice_set}
 use Rattle.std.specs.List.{list_all, range_with_len}
-use Rattle.a64_inst.specs.Numbers.{Flags}
+use Rattle.a64_inst.specs.declared.flags.Flags.{Flags}
 use Rattle.link_image.specs.declared.image.Image.{Image}
 use Rattle.link_image.specs.declared.image.Segment.{Segment}
 use Rattle.link_image.specs.Valid.{end_of}

@@ -11,9 +11,10 @@ ghost use Rattle.num_run.specs.Numeric.{numeric, at_place};
 ghost use Rattle.num_run.specs.Mapped.{IsMemory};
 ghost use Rattle.num_run.specs.Runner.{machine, Comes};
 
-use crate::numbers;
 use crate::report::RunEnd;
 use crate::runner::Runner;
+use a64_inst::Width;
+use a64_numbers::numbers;
 
 impl<'a> Runner<'a> {
     /// The place of the instruction plus a signed offset of so many bits.
@@ -23,7 +24,7 @@ impl<'a> Runner<'a> {
         ensures { result ≡ (self.now.place + sign_extended count 64 offset) % 2 ^ 64 }
     {
         self.place
-            .wrapping_add(numbers::sign_extended(1, count, offset))
+            .wrapping_add(numbers::sign_extended(Width::X, count, offset))
     }
 
     /// Keeps the place after the instruction in X30.
@@ -63,12 +64,12 @@ impl<'a> Runner<'a> {
         requires memory { IsMemory self.old.memory }
         requires inst { IsTrue (is_allowed (AdrAdrp op lo hi rd)) }
         ensures memory { IsMemory self.new.memory }
-        ensures comes { Comes (exec numeric (ops (AdrAdrp op lo hi rd)) [] (machine self.old)) result (machine self.old) (machine self.new) }
+        ensures comes { Comes (exec numeric (ops (AdrAdrp op lo hi rd)) [] (machine self.old)) result (machine self.new) }
     {
         let offset = u64::from(hi) * 4 + u64::from(lo);
         let at = if op == 1 {
             let page = self.place / 4096 * 4096;
-            page.wrapping_add(numbers::sign_extended(1, 33, offset * 4096))
+            page.wrapping_add(numbers::sign_extended(Width::X, 33, offset * 4096))
         } else {
             self.target(21, offset)
         };
@@ -79,7 +80,7 @@ impl<'a> Runner<'a> {
     pub fn b_bl(&mut self, op: u8, imm26: u32) -> RunEnd
         requires memory { IsMemory self.old.memory }
         ensures memory { IsMemory self.new.memory }
-        ensures comes { Comes (exec numeric (ops (BBl op imm26)) [] (machine self.old)) result (machine self.old) (machine self.new) }
+        ensures comes { Comes (exec numeric (ops (BBl op imm26)) [] (machine self.old)) result (machine self.new) }
     {
         let at = self.target(28, u64::from(imm26) * 4);
         if op != 0 {
@@ -92,7 +93,7 @@ impl<'a> Runner<'a> {
     pub fn b_cond(&mut self, imm19: u32, cond: u8) -> RunEnd
         requires memory { IsMemory self.old.memory }
         ensures memory { IsMemory self.new.memory }
-        ensures comes { Comes (exec numeric (ops (BCond imm19 cond)) [] (machine self.old)) result (machine self.old) (machine self.new) }
+        ensures comes { Comes (exec numeric (ops (BCond imm19 cond)) [] (machine self.old)) result (machine self.new) }
     {
         let at = self.target(21, u64::from(imm19) * 4);
         self.jump_if(self.flags.hold(cond), at)
@@ -102,10 +103,10 @@ impl<'a> Runner<'a> {
     pub fn cbz_cbnz(&mut self, sf: u8, op: u8, imm19: u32, rt: u8) -> RunEnd
         requires memory { IsMemory self.old.memory }
         ensures memory { IsMemory self.new.memory }
-        ensures comes { Comes (exec numeric (ops (CbzCbnz sf op imm19 rt)) [] (machine self.old)) result (machine self.old) (machine self.new) }
+        ensures comes { Comes (exec numeric (ops (CbzCbnz sf op imm19 rt)) [] (machine self.old)) result (machine self.new) }
     {
         let at = self.target(21, u64::from(imm19) * 4);
-        let holds = numbers::is_zero(op == 1, sf, self.register(false, rt));
+        let holds = numbers::is_zero(op == 1, numbers::width(sf), self.register(false, rt));
         self.jump_if(holds, at)
     }
 
@@ -114,18 +115,18 @@ impl<'a> Runner<'a> {
         requires memory { IsMemory self.old.memory }
         requires inst { IsTrue (is_allowed (TbzTbnz b5 op b40 imm14 rt)) }
         ensures memory { IsMemory self.new.memory }
-        ensures comes { Comes (exec numeric (ops (TbzTbnz b5 op b40 imm14 rt)) [] (machine self.old)) result (machine self.old) (machine self.new) }
+        ensures comes { Comes (exec numeric (ops (TbzTbnz b5 op b40 imm14 rt)) [] (machine self.old)) result (machine self.new) }
     {
         let at = self.target(16, u64::from(imm14) * 4);
         let bit = (self.register(false, rt) >> (b5 * 32 + b40)) % 2;
-        self.jump_if(numbers::is_zero(op == 1, 1, bit), at)
+        self.jump_if(numbers::is_zero(op == 1, Width::X, bit), at)
     }
 
     /// BR, BLR, RET.
     pub fn br_blr_ret(&mut self, which: u8, rn: u8) -> RunEnd
         requires memory { IsMemory self.old.memory }
         ensures memory { IsMemory self.new.memory }
-        ensures comes { Comes (exec numeric (ops (BrBlrRet which rn)) [] (machine self.old)) result (machine self.old) (machine self.new) }
+        ensures comes { Comes (exec numeric (ops (BrBlrRet which rn)) [] (machine self.old)) result (machine self.new) }
     {
         let at = self.register(false, rn);
         if which == 1 {

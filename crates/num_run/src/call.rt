@@ -18,7 +18,7 @@ impl<'a> Runner<'a> {
     pub fn call(&mut self, immediate: u16) -> Result<RunEnd, AllocError>
         requires { IsMemory self.old.memory }
         ensures memory { IsMemory self.new.memory }
-        ensures comes { IfOk result (λ end. Comes (called immediate (machine self.old)) end (machine self.old) (machine self.new)) }
+        ensures comes { IfOk result (λ end. Comes (called immediate (machine self.old)) end (machine self.new)) }
     {
         if immediate != 0 {
             return Ok(RunEnd::Trap(Trap::BadCall));
@@ -38,7 +38,7 @@ impl<'a> Runner<'a> {
     fn write(&mut self, at: u64, count: u64) -> Result<RunEnd, AllocError>
         requires { IsMemory self.old.memory }
         ensures memory { IsMemory self.new.memory }
-        ensures comes { IfOk result (λ end. Comes (written at count (machine self.old)) end (machine self.old) (machine self.new)) }
+        ensures comes { IfOk result (λ end. Comes (written at count (machine self.old)) end (machine self.new)) }
     {
         if count == 0 {
             self.set_register(false, 0, count);
@@ -60,7 +60,7 @@ impl<'a> Runner<'a> {
         requires memory { IsMemory self.old.memory }
         requires input { count ≤ length self.old.input.now }
         ensures memory { IsMemory self.new.memory }
-        ensures comes { Comes (received at count (machine self.old)) result (machine self.old) (machine self.new) }
+        ensures comes { Comes (received at count (machine self.old)) result (machine self.new) }
     {
         if count == 0 {
             self.set_register(false, 0, 0);

@@ -39,7 +39,7 @@ impl<'a> Runner<'a> {
     pub fn step(&mut self) -> Result<RunEnd, AllocError>
         requires { IsMemory self.old.memory }
         ensures memory { IsMemory self.new.memory }
-        ensures comes { IfOk result (λ end. Comes (step (machine self.old)) end (machine self.old) (machine self.new)) }
+        ensures comes { IfOk result (λ end. Comes (step (machine self.old)) end (machine self.new)) }
     {
         if self.place % 4 != 0 {
             return Ok(RunEnd::Trap(Trap::Fault));
@@ -59,7 +59,7 @@ impl<'a> Runner<'a> {
         requires memory { IsMemory self.old.memory }
         requires inst { IsTrue (is_allowed inst) }
         ensures memory { IsMemory self.new.memory }
-        ensures comes { IfOk result (λ end. Comes (exec numeric (ops inst) [] (machine self.old)) end (machine self.old) (machine self.new)) }
+        ensures comes { IfOk result (λ end. Comes (exec numeric (ops inst) [] (machine self.old)) end (machine self.new)) }
     {
         by_row! { self, inst,
             AdrAdrp { op, lo, hi, rd } => adr_adrp;
@@ -94,7 +94,7 @@ impl<'a> Runner<'a> {
     fn system_call(&mut self, imm16: u16) -> Result<RunEnd, AllocError>
         requires { IsMemory self.old.memory }
         ensures memory { IsMemory self.new.memory }
-        ensures comes { IfOk result (λ end. Comes (exec numeric (ops (SvcBrk 0 imm16)) [] (machine self.old)) end (machine self.old) (machine self.new)) }
+        ensures comes { IfOk result (λ end. Comes (exec numeric (ops (SvcBrk 0 imm16)) [] (machine self.old)) end (machine self.new)) }
     {
         let end = self.call(imm16)?;
         if let RunEnd::Running = end {

@@ -11,7 +11,7 @@ ghost use Rattle.num_run.specs.Runner.{machine, Comes};
 
 use crate::report::RunEnd;
 use crate::runner::Runner;
-use crate::{fields, numbers, shifts, sums};
+use a64_numbers::{fields, numbers, shifts, sums};
 
 impl<'a> Runner<'a> {
     /// AND, BIC, ORR, ORN, EOR, EON, ANDS and BICS of a shifted register.
@@ -29,12 +29,13 @@ impl<'a> Runner<'a> {
         requires memory { IsMemory self.old.memory }
         requires inst { IsTrue (is_allowed (LogicalShifted sf opc shift n rm imm6 rn rd)) }
         ensures memory { IsMemory self.new.memory }
-        ensures comes { Comes (exec numeric (ops (LogicalShifted sf opc shift n rm imm6 rn rd)) [] (machine self.old)) result (machine self.old) (machine self.new) }
+        ensures comes { Comes (exec numeric (ops (LogicalShifted sf opc shift n rm imm6 rn rd)) [] (machine self.old)) result (machine self.new) }
     {
-        let b = shifts::operand(sf, shift, imm6, self.register(false, rm));
-        let value = numbers::logical(sf, opc, n == 1, self.register(false, rn), b);
+        let width = numbers::width(sf);
+        let b = shifts::operand(width, shift, imm6, self.register(false, rm));
+        let value = numbers::logical(width, opc, n == 1, self.register(false, rn), b);
         if opc == 3 {
-            self.set_flags(sums::flags_of_logic(sf, value));
+            self.set_flags(sums::flags_of_logic(width, value));
         }
         self.keep(rd, value)
     }
@@ -53,12 +54,13 @@ impl<'a> Runner<'a> {
         requires memory { IsMemory self.old.memory }
         requires inst { IsTrue (is_allowed (LogicalImm sf opc n immr imms rn rd)) }
         ensures memory { IsMemory self.new.memory }
-        ensures comes { Comes (exec numeric (ops (LogicalImm sf opc n immr imms rn rd)) [] (machine self.old)) result (machine self.old) (machine self.new) }
+        ensures comes { Comes (exec numeric (ops (LogicalImm sf opc n immr imms rn rd)) [] (machine self.old)) result (machine self.new) }
     {
+        let width = numbers::width(sf);
         let b = fields::mask(sf, n, immr, imms);
-        let value = numbers::logical(sf, opc, false, self.register(false, rn), b);
+        let value = numbers::logical(width, opc, false, self.register(false, rn), b);
         if opc == 3 {
-            self.set_flags(sums::flags_of_logic(sf, value));
+            self.set_flags(sums::flags_of_logic(width, value));
         }
         self.put(opc != 3, rd, value)
     }
@@ -68,14 +70,12 @@ impl<'a> Runner<'a> {
         requires memory { IsMemory self.old.memory }
         requires inst { IsTrue (is_allowed (MoveWide sf opc hw imm16 rd)) }
         ensures memory { IsMemory self.new.memory }
-        ensures comes { Comes (exec numeric (ops (MoveWide sf opc hw imm16 rd)) [] (machine self.old)) result (machine self.old) (machine self.new) }
+        ensures comes { Comes (exec numeric (ops (MoveWide sf opc hw imm16 rd)) [] (machine self.old)) result (machine self.new) }
     {
+        let width = numbers::width(sf);
         let value = match opc {
-            0 => numbers::inverse(sf, numbers::placed(imm16, hw)),
-            3 => numbers::low(
-                sf,
-                numbers::with_placed(self.register(false, rd), imm16, hw),
-            ),
+            0 => numbers::inverse(width, numbers::placed(imm16, hw)),
+            3 => numbers::inserted(width, self.register(false, rd), imm16, hw),
             _ => numbers::placed(imm16, hw),
         };
         self.put(false, rd, value)
@@ -86,13 +86,14 @@ impl<'a> Runner<'a> {
         requires memory { IsMemory self.old.memory }
         requires inst { IsTrue (is_allowed (Bitfield sf opc n immr imms rn rd)) }
         ensures memory { IsMemory self.new.memory }
-        ensures comes { Comes (exec numeric (ops (Bitfield sf opc n immr imms rn rd)) [] (machine self.old)) result (machine self.old) (machine self.new) }
+        ensures comes { Comes (exec numeric (ops (Bitfield sf opc n immr imms rn rd)) [] (machine self.old)) result (machine self.new) }
     {
+        let width = numbers::width(sf);
         let a = self.register(false, rn);
         let value = if opc == 1 {
-            fields::with_field(sf, immr, imms, self.register(false, rd), a)
+            fields::with_field(width, immr, imms, self.register(false, rd), a)
         } else {
-            fields::field(opc == 0, sf, immr, imms, a)
+            fields::field(opc == 0, width, immr, imms, a)
         };
         self.keep(rd, value)
     }
@@ -102,9 +103,10 @@ impl<'a> Runner<'a> {
         requires memory { IsMemory self.old.memory }
         requires inst { IsTrue (is_allowed (Extr sf n rm imms rn rd)) }
         ensures memory { IsMemory self.new.memory }
-        ensures comes { Comes (exec numeric (ops (Extr sf n rm imms rn rd)) [] (machine self.old)) result (machine self.old) (machine self.new) }
+        ensures comes { Comes (exec numeric (ops (Extr sf n rm imms rn rd)) [] (machine self.old)) result (machine self.new) }
     {
-        let value = fields::extract(sf, imms, self.register(false, rn), self.register(false, rm));
+        let a = self.register(false, rn);
+        let value = fields::extract(numbers::width(sf), imms, a, self.register(false, rm));
         self.keep(rd, value)
     }
 }

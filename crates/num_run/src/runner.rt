@@ -7,17 +7,9 @@ ghost use Rattle.num_run.specs.Mapped.{IsMemory};
 ghost use Rattle.num_run.specs.Runner.{machine};
 
 use crate::memory::Memory;
+use a64_inst::Flags;
 use link_image::Image;
 use std::alloc::{AllocError, Global};
-
-/// The flags that instructions set and test.
-#[derive(Clone, Copy, Debug)]
-pub struct Flags {
-    pub n: bool,
-    pub z: bool,
-    pub c: bool,
-    pub v: bool,
-}
 
 /// The machine while it runs.
 #[derive(Debug, Drop)]

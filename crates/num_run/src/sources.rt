@@ -11,7 +11,10 @@ ghost use Rattle.num_run.specs.Runner.{machine, Comes};
 
 use crate::report::RunEnd;
 use crate::runner::Runner;
-use crate::{numbers, products, sums, turned};
+use a64_inst::Width;
+use a64_numbers::numbers::{chosen, sum_of, width};
+use a64_numbers::sums::sum;
+use a64_numbers::{products, turned};
 
 impl<'a> Runner<'a> {
     /// UDIV, SDIV, LSLV, LSRV, ASRV, RORV.
@@ -19,10 +22,10 @@ impl<'a> Runner<'a> {
         requires memory { IsMemory self.old.memory }
         requires inst { IsTrue (is_allowed (TwoSources sf rm opcode rn rd)) }
         ensures memory { IsMemory self.new.memory }
-        ensures comes { Comes (exec numeric (ops (TwoSources sf rm opcode rn rd)) [] (machine self.old)) result (machine self.old) (machine self.new) }
+        ensures comes { Comes (exec numeric (ops (TwoSources sf rm opcode rn rd)) [] (machine self.old)) result (machine self.new) }
     {
         let a = self.register(false, rn);
-        let value = products::two_sources(sf, opcode, a, self.register(false, rm));
+        let value = products::two_sources(width(sf), opcode, a, self.register(false, rm));
         self.keep(rd, value)
     }
 
@@ -30,9 +33,9 @@ impl<'a> Runner<'a> {
     pub fn one_source(&mut self, sf: u8, opcode: u8, rn: u8, rd: u8) -> RunEnd
         requires memory { IsMemory self.old.memory }
         ensures memory { IsMemory self.new.memory }
-        ensures comes { Comes (exec numeric (ops (OneSource sf opcode rn rd)) [] (machine self.old)) result (machine self.old) (machine self.new) }
+        ensures comes { Comes (exec numeric (ops (OneSource sf opcode rn rd)) [] (machine self.old)) result (machine self.new) }
     {
-        let value = turned::one_source(sf, opcode, self.register(false, rn));
+        let value = turned::one_source(width(sf), opcode, self.register(false, rn));
         self.keep(rd, value)
     }
 
@@ -49,14 +52,19 @@ impl<'a> Runner<'a> {
     ) -> RunEnd
         requires memory { IsMemory self.old.memory }
         ensures memory { IsMemory self.new.memory }
-        ensures comes { Comes (exec numeric (ops (ThreeSources sf op rm o0 ra rn rd)) [] (machine self.old)) result (machine self.old) (machine self.new) }
+        ensures comes { Comes (exec numeric (ops (ThreeSources sf op rm o0 ra rn rd)) [] (machine self.old)) result (machine self.new) }
     {
         let a = self.register(false, rn);
         let b = self.register(false, rm);
         let c = self.register(false, ra);
         let value = match op {
-            0 => sums::plain_sum(o0 == 1, sf, c, products::product(sf, a, b)),
-            1 | 5 => sums::plain_sum(o0 == 1, 1, c, products::long_product(op == 1, a, b)),
+            0 => sum(sum_of(o0), width(sf), c, products::product(width(sf), a, b)),
+            1 | 5 => sum(
+                sum_of(o0),
+                Width::X,
+                c,
+                products::long_product(op == 1, a, b),
+            ),
             _ => products::high_product(op == 2, a, b),
         };
         self.keep(rd, value)
@@ -75,11 +83,11 @@ impl<'a> Runner<'a> {
     ) -> RunEnd
         requires memory { IsMemory self.old.memory }
         ensures memory { IsMemory self.new.memory }
-        ensures comes { Comes (exec numeric (ops (CondSelect sf op rm cond o2 rn rd)) [] (machine self.old)) result (machine self.old) (machine self.new) }
+        ensures comes { Comes (exec numeric (ops (CondSelect sf op rm cond o2 rn rd)) [] (machine self.old)) result (machine self.new) }
     {
         let a = self.register(false, rn);
         let b = self.register(false, rm);
         let holds = self.flags.hold(cond);
-        self.keep(rd, numbers::chosen(op == 1, o2 == 1, sf, holds, a, b))
+        self.keep(rd, chosen(op == 1, o2 == 1, width(sf), holds, a, b))
     }
 }
