@@ -1,6 +1,6 @@
 ghost use Rattle.std.specs.Prelude.{◌≡◌, ◌≤◌, ◌-◌, [], length, map, take, Ok, IfOk};
 ghost use Rattle.aux_types.specs.Gives.{Gives};
-ghost use Rattle.aux_types.specs.Shape.{shape_of, shapes, IsNamed};
+ghost use Rattle.aux_types.specs.Shape.{Sequence, Set, Mapping, Tuple, Variant, shape_of, shapes, IsNamed};
 ghost use Rattle.aux_codec.specs.Value.{Value, value_of, entry_of, values, entries};
 ghost use Rattle.aux_codec.specs.Spelling.{spelling, aux_bytes};
 ghost use Rattle.aux_codec.specs.Reading.{members, distinct, pairs, parts_at, value_at, read_value};
@@ -121,6 +121,79 @@ fn parts_at<'a>(
     Ok((found, rest))
 }
 
+/// A count, and that many members.
+#[cycle(value_at)]
+fn sequence_at<'a>(
+    alloc: Global,
+    total: usize,
+    inner: &AuxType,
+    bytes: &'a [u8],
+) -> Read<'a, AuxValue>
+    ensures { Gives (λ x. (value_of x.0, x.1.now)) result (value_at total (Sequence (shape_of inner.now)) bytes.now) }
+{
+    let (count, rest) = u64_at(total, bytes)?;
+    let (found, rest) = members(alloc, total, inner, count, rest)?;
+    Ok((AuxValue::Many(found), rest))
+}
+
+/// A count, and that many members, none of which comes twice.
+#[cycle(value_at)]
+fn set_at<'a>(alloc: Global, total: usize, inner: &AuxType, bytes: &'a [u8]) -> Read<'a, AuxValue>
+    ensures { Gives (λ x. (value_of x.0, x.1.now)) result (value_at total (Set (shape_of inner.now)) bytes.now) }
+{
+    let (count, rest) = u64_at(total, bytes)?;
+    let (found, rest) = distinct(alloc, total, inner, count, rest)?;
+    Ok((AuxValue::Many(found), rest))
+}
+
+/// A count, and that many entries, none of whose keys comes twice.
+#[cycle(value_at)]
+fn mapping_at<'a>(
+    alloc: Global,
+    total: usize,
+    key: &AuxType,
+    value: &AuxType,
+    bytes: &'a [u8],
+) -> Read<'a, AuxValue>
+    ensures { Gives (λ x. (value_of x.0, x.1.now)) result (value_at total (Mapping (shape_of key.now) (shape_of value.now)) bytes.now) }
+{
+    let (count, rest) = u64_at(total, bytes)?;
+    let (found, rest) = pairs(alloc, total, key, value, count, rest)?;
+    Ok((AuxValue::Pairs(found), rest))
+}
+
+/// A value for each part.
+#[cycle(value_at)]
+fn tuple_at<'a>(
+    alloc: Global,
+    total: usize,
+    types: &[AuxType],
+    bytes: &'a [u8],
+) -> Read<'a, AuxValue>
+    ensures { Gives (λ x. (value_of x.0, x.1.now)) result (value_at total (Tuple (shapes (map shape_of types.now))) bytes.now) }
+{
+    let (found, rest) = parts_at(alloc, total, types, bytes)?;
+    Ok((AuxValue::Parts(found), rest))
+}
+
+/// The index of a part, and a value of it.
+#[cycle(value_at)]
+fn variant_at<'a>(
+    alloc: Global,
+    total: usize,
+    types: &[AuxType],
+    bytes: &'a [u8],
+) -> Read<'a, AuxValue>
+    ensures { Gives (λ x. (value_of x.0, x.1.now)) result (value_at total (Variant (shapes (map shape_of types.now))) bytes.now) }
+{
+    let (index, rest) = u64_at(total, bytes)?;
+    let Some(chosen) = part(types, index) else {
+        return Err(End::Fault(AuxFault::BadVariant(place(total, bytes))));
+    };
+    let (value, rest) = value_at(alloc, total, chosen, rest)?;
+    Ok((AuxValue::Choice(index, Box::new(alloc, value)?), rest))
+}
+
 /// The value at the front.
 #[cycle(value_at)]
 fn value_at<'a>(alloc: Global, total: usize, of: &AuxType, bytes: &'a [u8]) -> Read<'a, AuxValue>
@@ -128,33 +201,11 @@ fn value_at<'a>(alloc: Global, total: usize, of: &AuxType, bytes: &'a [u8]) -> R
 {
     match of.kind() {
         Kind::Scalar(scalar) => scalar_at(alloc, total, scalar, bytes),
-        Kind::Sequence(inner) => {
-            let (count, rest) = u64_at(total, bytes)?;
-            let (found, rest) = members(alloc, total, inner, count, rest)?;
-            Ok((AuxValue::Many(found), rest))
-        }
-        Kind::Set(inner) => {
-            let (count, rest) = u64_at(total, bytes)?;
-            let (found, rest) = distinct(alloc, total, inner, count, rest)?;
-            Ok((AuxValue::Many(found), rest))
-        }
-        Kind::Mapping(key, value) => {
-            let (count, rest) = u64_at(total, bytes)?;
-            let (found, rest) = pairs(alloc, total, key, value, count, rest)?;
-            Ok((AuxValue::Pairs(found), rest))
-        }
-        Kind::Tuple(types) => {
-            let (found, rest) = parts_at(alloc, total, types, bytes)?;
-            Ok((AuxValue::Parts(found), rest))
-        }
-        Kind::Variant(types) => {
-            let (index, rest) = u64_at(total, bytes)?;
-            let Some(chosen) = part(types, index) else {
-                return Err(End::Fault(AuxFault::BadVariant(place(total, bytes))));
-            };
-            let (value, rest) = value_at(alloc, total, chosen, rest)?;
-            Ok((AuxValue::Choice(index, Box::new(alloc, value)?), rest))
-        }
+        Kind::Sequence(inner) => sequence_at(alloc, total, inner, bytes),
+        Kind::Set(inner) => set_at(alloc, total, inner, bytes),
+        Kind::Mapping(key, value) => mapping_at(alloc, total, key, value, bytes),
+        Kind::Tuple(types) => tuple_at(alloc, total, types, bytes),
+        Kind::Variant(types) => variant_at(alloc, total, types, bytes),
     }
 }
 

@@ -125,23 +125,22 @@ pub parts_at-returns : goal.parts_at-returns
 parts_at-returns t c =
     parts_done c.args.total (map value_of c.loop-of.found.items) c.args.types.now c.loop-of.of-index c.loop-of.rest.now (parts_at c.args.total (shapes (map shape_of c.args.types.now)) c.args.bytes.now) c.loop-of.invariant (drop_of_length-le c.args.types.now c.loop-of-test.false)
 
-pub value_at-returns-in_default : goal.value_at-returns-in_default
-value_at-returns-in_default t c =
-    rw (c.in-Variant.ensures, c.in_ok-index-in-Variant.ensures, c.place.ensures, chosen_none c.args.total c.in-Variant.types.now c.in_ok-index-in-Variant.index (place c.args.total c.args.bytes.now) c.in_ok-index-in-Variant.rest.now (sym c.in_default.ensures)) refl
+pub variant_at-returns-in_default : goal.variant_at-returns-in_default
+variant_at-returns-in_default t c =
+    rw (c.in_ok-index.ensures, c.place.ensures, chosen_none c.args.total c.args.types.now c.in_ok-index.index (place c.args.total c.args.bytes.now) c.in_ok-index.rest.now (sym c.in_default.ensures)) refl
 
-pub value_at-value_at-requires : goal.value_at-value_at-requires
-value_at-value_at-requires t c =
-    let deep = nesting_of_part c.in-Variant.types.now c.in_ok-index-in-Variant.index c.in-Some.chosen.now (sym c.in-Some.ensures) in
-    let whole = ap nesting c.in-Variant.ensures in
-    (omega (arith, deep, whole), tt)
+pub variant_at-value_at-requires : goal.variant_at-value_at-requires
+variant_at-value_at-requires t c =
+    let deep = nesting_of_part c.args.types.now c.in_ok-index.index c.in-Some.chosen.now (sym c.in-Some.ensures) in
+    (omega (arith, deep), tt)
 
-pub value_at-returns-in_err-value-in-Variant : goal.value_at-returns-in_err-value-in-Variant
-value_at-returns-in_err-value-in-Variant t c =
-    let p = err_from_is_err_and c.from_residual-in_err-value-in-Variant.result c.from_residual-in_err-value-in-Variant.ensures.1 in
-    let chosen = chosen_is c.args.total c.in-Variant.types.now c.in_ok-index-in-Variant.index (place c.args.total c.args.bytes.now) c.in_ok-index-in-Variant.rest.now c.in-Some.chosen.now (sym c.in-Some.ensures) in
-    rw (p.1, p.2, c.in-Variant.ensures, c.in_ok-index-in-Variant.ensures, chosen) (fails_on c.in_err-value-in-Variant.field-0.0 _ _ c.in_err-value-in-Variant.ensures)
+pub variant_at-returns-in_err-value : goal.variant_at-returns-in_err-value
+variant_at-returns-in_err-value t c =
+    let p = err_from_is_err_and c.from_residual-in_err-value.result c.from_residual-in_err-value.ensures.1 in
+    let chosen = chosen_is c.args.total c.args.types.now c.in_ok-index.index (place c.args.total c.args.bytes.now) c.in_ok-index.rest.now c.in-Some.chosen.now (sym c.in-Some.ensures) in
+    rw (p.1, p.2, c.in_ok-index.ensures, chosen) (fails_on c.in_err-value.field-0.0 _ _ c.in_err-value.ensures)
 
-pub value_at-returns-in_ok-new-in-Variant : goal.value_at-returns-in_ok-new-in-Variant
-value_at-returns-in_ok-new-in-Variant t c =
-    let chosen = chosen_is c.args.total c.in-Variant.types.now c.in_ok-index-in-Variant.index (place c.args.total c.args.bytes.now) c.in_ok-index-in-Variant.rest.now c.in-Some.chosen.now (sym c.in-Some.ensures) in
-    rw (c.in-Variant.ensures, c.in_ok-index-in-Variant.ensures, chosen, c.in_ok-value-in-Variant.ensures, value_choice, c.in_ok-new-in-Variant.ensures.ok) refl
+pub variant_at-returns : goal.variant_at-returns
+variant_at-returns t c =
+    let chosen = chosen_is c.args.total c.args.types.now c.in_ok-index.index (place c.args.total c.args.bytes.now) c.in_ok-index.rest.now c.in-Some.chosen.now (sym c.in-Some.ensures) in
+    rw (c.in_ok-index.ensures, chosen, c.in_ok-value.ensures, value_choice, c.in_ok-new.ensures.ok) refl
