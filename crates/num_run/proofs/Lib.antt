@@ -1,9 +1,5 @@
 pub mod Accesses
 pub mod Ends
-pub mod Loads
-pub mod Lookups
-pub mod Spans
-pub mod Starts
-pub mod Steps
+pub mod Reached
 pub mod Sums
-pub mod Writes
+pub mod Decoding

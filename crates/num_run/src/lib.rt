@@ -4,19 +4,22 @@
 mod access;
 mod arithmetic;
 mod branches;
+mod cache;
 mod call;
 mod execute;
 pub mod laws;
 mod logic;
-mod memory;
+mod output;
 mod pairs;
-mod region;
 mod report;
 mod results;
 mod run;
 mod runner;
+mod running;
 mod sources;
+mod steps;
 
 pub use a64_inst::Trap;
 pub use report::{RunEnd, RunReport};
 pub use run::run_image;
+pub use running::Machine;
