@@ -9,6 +9,3 @@ mod memory;
 mod registers;
 
 pub use decoding::decode;
-
-#[cfg(test)]
-mod tests;

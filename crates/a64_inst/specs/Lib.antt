@@ -4,6 +4,9 @@ pub mod Rows
 pub mod Reserved
 pub mod Table
 pub mod Numbers
-pub mod Operations
 pub mod Domain
 pub mod Meaning
+pub mod Runs
+pub mod RunLaws
+pub mod Kinds
+pub mod Fitting

@@ -1,16 +1,23 @@
 -- What number functions give, at a width in bits (DDI 0487, shared pseudocode).
 use Rattle.std.specs.Prelude.{ℕ, zero, suc, ◌+◌, ◌-◌, ◌*◌, ◌/◌, ◌%◌, ◌^◌, Bool, true, false, ◌==◌, ◌&&◌, not, nat_le, nat_lt, bit_and, bit_or, bit_xor, if◌then◌else◌}
-use Rattle.std.specs.Int.{Width, w16, w32, w64, swap_bytes, reverse_bits_onto}
-use Rattle.a64_inst.specs.Operations.{Unary, insert, shift, extend, bitfield, inverted, one_source, bit, Binary, logic, two_sources, bitfield_into, extract, product, long_product, high_product, plain_sum}
+use Rattle.std.specs.Int as int
+use Rattle.std.specs.Int.{w16, w32, w64, swap_bytes, reverse_bits_onto}
+use Rattle.a64_inst.specs.declared.flags.Flags.{Flags}
+use Rattle.a64_inst.specs.declared.operations.Width.{Width}
+use Rattle.a64_inst.specs.declared.operations.Width.TheVariants.{W, X}
+use Rattle.a64_inst.specs.declared.operations.Sum.{Sum}
+use Rattle.a64_inst.specs.declared.operations.Sum.TheVariants.{Add, Subtract}
+use Rattle.a64_inst.specs.declared.operations.Unary.{Unary}
+use Rattle.a64_inst.specs.declared.operations.Unary.TheVariants.{Insert, Shift, Extend, Bitfield, Addend, OneSource, Bit}
+use Rattle.a64_inst.specs.declared.operations.Binary.{Binary}
+use Rattle.a64_inst.specs.declared.operations.Binary.TheVariants.{Logic, TwoSources, BitfieldInto, Extract, Product, LongProduct, HighProduct, PlainSum}
 use lib.Count.{count_leading_zeros}
 use mir.Val.{bits}
 
--- the flags, known
-pub record Flags : Type 0 where
-  pub n : Bool
-  pub z : Bool
-  pub c : Bool
-  pub v : Bool
+-- the bits of a width
+abbrev pub bits_of : Width → ℕ
+bits_of W = 32
+bits_of X = 64
 
 -- two truths are one
 abbrev pub same : Bool → Bool → Bool
@@ -50,21 +57,27 @@ carried_flags width a b carry = record {
   v = same (is_negative width (low width a)) (is_negative width (low width b)) && not (same (is_negative width (low width a)) (is_negative width (low width (carried_sum width a b carry))));
 }
 
--- the second operand of a sum, or of a difference, which is a plus not b plus 1
-abbrev pub addend : Bool → ℕ → ℕ → ℕ
-addend minus width b = if minus then inverse width b else low width b
+-- the second operand of a sum; a difference is a plus not b plus 1
+abbrev pub addend : Sum → ℕ → ℕ → ℕ
+addend Add width b = low width b
+addend Subtract width b = inverse width b
+
+-- the carry into a sum
+abbrev pub carry_into : Sum → ℕ
+carry_into Add = 0
+carry_into Subtract = 1
 
 -- a plus b, or a less b
-abbrev pub sum_value : Bool → ℕ → ℕ → ℕ → ℕ
-sum_value minus width a b = low width (carried_sum width a (addend minus width b) (bit_of minus))
+abbrev pub sum_value : Sum → ℕ → ℕ → ℕ → ℕ
+sum_value sum width a b = low width (carried_sum width a (addend sum width b) (carry_into sum))
 
 -- the flags of that
-abbrev pub sum_flags : Bool → ℕ → ℕ → ℕ → Flags
-sum_flags minus width a b = carried_flags width a (addend minus width b) (bit_of minus)
+abbrev pub sum_flags : Sum → ℕ → ℕ → ℕ → Flags
+sum_flags sum width a b = carried_flags width a (addend sum width b) (carry_into sum)
 
 -- the flags of a sum or a difference with a carry
-abbrev pub carry_flags : Bool → ℕ → ℕ → ℕ → ℕ → Flags
-carry_flags minus width a b carry = carried_flags width a (addend minus width b) carry
+abbrev pub carry_flags : Sum → ℕ → ℕ → ℕ → ℕ → Flags
+carry_flags sum width a b carry = carried_flags width a (addend sum width b) carry
 
 -- the flags of a logical result
 abbrev pub logic_flags : ℕ → ℕ → Flags
@@ -159,7 +172,7 @@ signed_quotient width a b =
 -- ---- bits and bytes turned round, and counts
 
 -- the bytes of each part of a number turned round, for so many parts
-abbrev pub swapped_parts : Width → ℕ → ℕ → ℕ
+abbrev pub swapped_parts : int.Width → ℕ → ℕ → ℕ
 swapped_parts part zero a = 0
 swapped_parts part (suc count) a = swap_bytes part (a % 2 ^ bits part) + swapped_parts part count (a / 2 ^ bits part) * 2 ^ bits part
 
@@ -193,33 +206,37 @@ logic_value opc a b = if opc == 1 then bit_or a b else if opc == 2 then bit_xor 
 
 -- a function that leaves its operand as it is, whatever it stands for
 abbrev pub is_copy : Unary → Bool
-is_copy (shift kind amount) = amount == 0
-is_copy (extend option amount) = (option % 4 == 3) && (amount == 0)
+is_copy (Shift kind amount) = amount == 0
+is_copy (Extend option amount) = (option % 4 == 3) && (amount == 0)
 is_copy f = false
 
 -- what a number function of one number gives
 abbrev pub unary_value : Unary → ℕ → ℕ → ℕ
-unary_value (insert value at) width a = low width (a / 2 ^ (at + 16) * 2 ^ (at + 16) + value * 2 ^ at + a % 2 ^ at)
-unary_value (shift kind amount) width a = if amount == 0 then a else shifted width kind a amount
-unary_value (extend option amount) width a = if (option % 4 == 3) && (amount == 0) then a else low width (extended width option a * 2 ^ amount)
-unary_value (bitfield signed immr imms) width a =
+unary_value (Insert value at) width a = low width (a / 2 ^ (at + 16) * 2 ^ (at + 16) + value * 2 ^ at + a % 2 ^ at)
+unary_value (Shift kind amount) width a = shifted width kind a amount
+unary_value (Extend option amount) width a = low width (extended width option a * 2 ^ amount)
+unary_value (Bitfield signed immr imms) width a =
     if signed then sign_extended (moved_top width immr imms) width (moved_bits width immr imms a) else moved_bits width immr imms a
-unary_value (inverted on) width a = if on then inverse width a else low width a
-unary_value (one_source opcode) width a = one_source_value opcode width a
-unary_value (bit place) width a = a / 2 ^ place % 2
+unary_value (Addend sum) width a = addend sum width a
+unary_value (OneSource opcode) width a = one_source_value opcode width a
+unary_value (Bit place) width a = a / 2 ^ place % 2
+
+-- an operand: a copy, or what a number function gives
+abbrev pub operand_value : Unary → ℕ → ℕ → ℕ
+operand_value f width a = if is_copy f then a else unary_value f width a
 
 -- what a number function of two numbers gives
 abbrev pub binary_value : Binary → ℕ → ℕ → ℕ → ℕ
-binary_value (logic opc not_second) width a b = logic_value opc (low width a) (if not_second then inverse width b else low width b)
-binary_value (two_sources opcode) width a b = two_sources_value opcode width a b
-binary_value (bitfield_into immr imms) width a b =
+binary_value (Logic opc inverted) width a b = logic_value opc (low width a) (if inverted then inverse width b else low width b)
+binary_value (TwoSources opcode) width a b = two_sources_value opcode width a b
+binary_value (BitfieldInto immr imms) width a b =
     low width a / 2 ^ moved_top width immr imms * 2 ^ moved_top width immr imms + moved_bits width immr imms b + a % 2 ^ moved_place width immr imms
-binary_value (extract place) width a b = low width (low width b / 2 ^ place + low width a * 2 ^ (width - place))
-binary_value product width a b = low width (low width a * low width b)
-binary_value (long_product signed) width a b = if signed then low 64 (sign_extended 32 64 a * sign_extended 32 64 b) else low 32 a * low 32 b
-binary_value (high_product signed) width a b =
+binary_value (Extract place) width a b = low width (low width b / 2 ^ place + low width a * 2 ^ (width - place))
+binary_value Product width a b = low width (low width a * low width b)
+binary_value (LongProduct signed) width a b = if signed then low 64 (sign_extended 32 64 a * sign_extended 32 64 b) else low 32 a * low 32 b
+binary_value (HighProduct signed) width a b =
     if signed then low 128 (sign_extended 64 128 a * sign_extended 64 128 b) / 2 ^ 64 else low 64 a * low 64 b / 2 ^ 64
-binary_value (plain_sum less) width a b = if less then low width (low width a + (2 ^ width - low width b)) else low width (low width a + low width b)
+binary_value (PlainSum sum) width a b = sum_value sum width a b
 
 -- ---- choices and tests
 

@@ -1,6 +1,6 @@
 //! Which fields the rows of the instruction table keep out.
 
-ghost use Rattle.std.specs.Prelude.{◌≡◌};
+ghost use Rattle.std.specs.Prelude.{◌≡◌, ◌≤◌};
 ghost use Rattle.a64_inst.specs.Reserved as reserved;
 ghost use Rattle.a64_inst.specs.Numbers.{element_size};
 
@@ -55,9 +55,10 @@ pub(crate) fn is_no_mask(sf: u8, n: u8, imms: u8) -> bool
     size == 0 || imms % size == size - 1 || (sf == 0 && n == 1)
 }
 
-// The size of the repeated element of a logical immediate, or 0 where there is none.
-fn element_size(n: u8, imms: u8) -> u8
-    ensures { result ≡ element_size n imms }
+/// The size of the repeated element of a logical immediate, or 0 where there is none of two bits or more.
+pub fn element_size(n: u8, imms: u8) -> u8
+    ensures value { result ≡ element_size n imms }
+    ensures most { result ≤ 64 }
 {
     match imms {
         _ if n == 1 => 64,

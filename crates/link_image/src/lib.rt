@@ -13,6 +13,3 @@ pub use fault::ImageFault;
 pub use image::{Image, Segment};
 pub use reading::read_image;
 pub use writing::write_image;
-
-#[cfg(test)]
-mod tests;

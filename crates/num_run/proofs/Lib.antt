@@ -1,13 +1,5 @@
 pub mod Accesses
 pub mod Ends
-pub mod Immediate
-pub mod Leading
-pub mod Loads
-pub mod Lookups
-pub mod Moved
-pub mod Powers
-pub mod Seen
-pub mod Spans
-pub mod Starts
-pub mod Widths
-pub mod Writes
+pub mod Reached
+pub mod Sums
+pub mod Decoding

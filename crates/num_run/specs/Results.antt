@@ -1,6 +1,8 @@
 -- Where results go, and the machine after them.
 use Rattle.std.specs.Prelude.{ℕ, ◌+◌, ◌%◌, ◌^◌, Bool, true, false, ◌==◌, if◌then◌else◌}
-use Rattle.a64_inst.specs.Numbers.{Flags, sum_value, sum_flags}
+use Rattle.a64_inst.specs.declared.flags.Flags.{Flags}
+use Rattle.a64_inst.specs.declared.operations.Sum.{Sum}
+use Rattle.a64_inst.specs.Numbers.{sum_value, sum_flags}
 use Rattle.num_run.specs.Machine.{Machine, with_register}
 use Rattle.num_run.specs.Numeric.{at_place}
 
@@ -20,11 +22,11 @@ put stack rd n m = gone_on (with_register stack rd n m)
 abbrev pub with_flags : Flags → Machine → Machine
 with_flags flags m = record m { flags = flags }
 
--- a sum, or for true a difference, kept, and where s is 1 its flags
-abbrev pub summed : Bool → ℕ → ℕ → (a b rd : ℕ) → Machine → Machine
-summed minus width s a b rd m = kept rd (sum_value minus width a b) (if s == 1 then with_flags (sum_flags minus width a b) m else m)
+-- a sum or a difference, kept, and where s is 1 its flags
+abbrev pub summed : Sum → ℕ → ℕ → (a b rd : ℕ) → Machine → Machine
+summed sum width s a b rd m = kept rd (sum_value sum width a b) (if s == 1 then with_flags (sum_flags sum width a b) m else m)
 
 -- the same, where without flags 31 is the stack pointer
-abbrev pub summed_or_stack : Bool → ℕ → ℕ → (a b rd : ℕ) → Machine → Machine
-summed_or_stack minus width s a b rd m =
-    if s == 1 then kept rd (sum_value minus width a b) (with_flags (sum_flags minus width a b) m) else put true rd (sum_value minus width a b) m
+abbrev pub summed_or_stack : Sum → ℕ → ℕ → (a b rd : ℕ) → Machine → Machine
+summed_or_stack sum width s a b rd m =
+    if s == 1 then kept rd (sum_value sum width a b) (with_flags (sum_flags sum width a b) m) else put true rd (sum_value sum width a b) m

@@ -7,16 +7,16 @@ ghost use Rattle.a64_inst.specs.Table.{is_allowed};
 ghost use Rattle.a64_inst.specs.declared.inst.Inst.TheVariants.{Literal, Scaled, UnscaledPostPre, Register};
 ghost use Rattle.num_run.specs.Numeric.{numeric, stored};
 ghost use Rattle.num_run.specs.Access.{accessed, advanced, moved, low_bytes};
-ghost use Rattle.num_run.specs.Mapped.{IsMemory};
+ghost use Rattle.paged_memory.specs.Mapped.{IsMemory};
 ghost use Rattle.num_run.specs.Runner.{machine, Comes};
 
-use crate::memory::byte_count;
-use crate::numbers::sign_extended;
 use crate::report::RunEnd;
 use crate::runner::Runner;
-use crate::shifts::{extended_operand, loaded};
-use crate::sums::sum;
-use a64_inst::Trap;
+use a64_inst::{Sum, Trap, Width};
+use a64_numbers::numbers::sign_extended;
+use a64_numbers::shifts::{extended_operand, loaded};
+use a64_numbers::sums::sum;
+use paged_memory::byte_count;
 
 impl<'a> Runner<'a> {
     /// LDR and LDRSW of a literal.
@@ -24,16 +24,16 @@ impl<'a> Runner<'a> {
         requires memory { IsMemory self.old.memory }
         requires inst { IsTrue (is_allowed (Literal opc imm19 rt)) }
         ensures memory { IsMemory self.new.memory }
-        ensures comes { Comes (exec numeric (ops (Literal opc imm19 rt)) [] (machine self.old)) result (machine self.old) (machine self.new) }
+        ensures comes { Comes (exec numeric (ops (Literal opc imm19 rt)) [] (machine self.old)) result (machine self.new) }
     {
-        let offset = sign_extended(1, 21, u64::from(imm19) * 4);
+        let offset = sign_extended(Width::X, 21, u64::from(imm19) * 4);
         let at = self.place.wrapping_add(offset);
         let size = if opc == 1 { 3 } else { 2 };
         let Some(number) = self.memory.load(at, size) else {
             return RunEnd::Trap(Trap::Fault);
         };
         let number = if opc == 2 {
-            sign_extended(1, 32, number)
+            sign_extended(Width::X, 32, number)
         } else {
             number
         };
@@ -47,10 +47,10 @@ impl<'a> Runner<'a> {
         requires memory { IsMemory self.old.memory }
         requires inst { IsTrue (is_allowed (Scaled size opc imm12 rn rt)) }
         ensures memory { IsMemory self.new.memory }
-        ensures comes { Comes (exec numeric (ops (Scaled size opc imm12 rn rt)) [] (machine self.old)) result (machine self.old) (machine self.new) }
+        ensures comes { Comes (exec numeric (ops (Scaled size opc imm12 rn rt)) [] (machine self.old)) result (machine self.new) }
     {
         let offset = u64::from(imm12) * byte_count(size);
-        let at = self.register(true, rn).wrapping_add(offset);
+        let at = sum(Sum::Add, Width::X, self.register(true, rn), offset);
         self.access_only(size, opc, rt, at)
     }
 
@@ -67,10 +67,15 @@ impl<'a> Runner<'a> {
         requires memory { IsMemory self.old.memory }
         requires inst { IsTrue (is_allowed (UnscaledPostPre size opc imm9 idx rn rt)) }
         ensures memory { IsMemory self.new.memory }
-        ensures comes { Comes (exec numeric (ops (UnscaledPostPre size opc imm9 idx rn rt)) [] (machine self.old)) result (machine self.old) (machine self.new) }
+        ensures comes { Comes (exec numeric (ops (UnscaledPostPre size opc imm9 idx rn rt)) [] (machine self.old)) result (machine self.new) }
     {
         let base = self.register(true, rn);
-        let moved = sum(false, 1, base, sign_extended(1, 9, u64::from(imm9)));
+        let moved = sum(
+            Sum::Add,
+            Width::X,
+            base,
+            sign_extended(Width::X, 9, u64::from(imm9)),
+        );
         match idx {
             0 => self.access_only(size, opc, rt, moved),
             1 => self.access_and_move(size, opc, rt, base, rn, moved),
@@ -92,10 +97,10 @@ impl<'a> Runner<'a> {
         requires memory { IsMemory self.old.memory }
         requires inst { IsTrue (is_allowed (Register size opc rm option s rn rt)) }
         ensures memory { IsMemory self.new.memory }
-        ensures comes { Comes (exec numeric (ops (Register size opc rm option s rn rt)) [] (machine self.old)) result (machine self.old) (machine self.new) }
+        ensures comes { Comes (exec numeric (ops (Register size opc rm option s rn rt)) [] (machine self.old)) result (machine self.new) }
     {
-        let offset = extended_operand(1, option, s * size, self.register(false, rm));
-        let at = sum(false, 1, self.register(true, rn), offset);
+        let offset = extended_operand(Width::X, option, s * size, self.register(false, rm));
+        let at = sum(Sum::Add, Width::X, self.register(true, rn), offset);
         self.access_only(size, opc, rt, at)
     }
 
@@ -105,7 +110,7 @@ impl<'a> Runner<'a> {
         requires memory { IsMemory self.old.memory }
         requires size { size < 4 }
         ensures memory { IsMemory self.new.memory }
-        ensures comes { Comes (then_do (accessed size opc rt at (machine self.old)) advanced) result (machine self.old) (machine self.new) }
+        ensures comes { Comes (then_do (accessed size opc rt at (machine self.old)) advanced) result (machine self.new) }
     {
         match self.access(size, opc, rt, at) {
             RunEnd::Running => {
@@ -122,7 +127,7 @@ impl<'a> Runner<'a> {
         requires memory { IsMemory self.old.memory }
         requires size { size < 4 }
         ensures memory { IsMemory self.new.memory }
-        ensures comes { Comes (then_do (accessed size opc rt at (machine self.old)) (moved rn base)) result (machine self.old) (machine self.new) }
+        ensures comes { Comes (then_do (accessed size opc rt at (machine self.old)) (moved rn base)) result (machine self.new) }
     {
         let end = self.access_only(size, opc, rt, at);
         if let RunEnd::Running = end {
@@ -137,7 +142,7 @@ impl<'a> Runner<'a> {
         requires memory { IsMemory self.old.memory }
         requires size { size < 4 }
         ensures memory { IsMemory self.new.memory }
-        ensures comes { Comes (accessed size opc rt at (machine self.old)) result (machine self.old) (machine self.new) }
+        ensures comes { Comes (accessed size opc rt at (machine self.old)) result (machine self.new) }
     {
         if opc == 0 {
             self.store_register(size, rt, at)
@@ -152,9 +157,9 @@ impl<'a> Runner<'a> {
         requires memory { IsMemory self.old.memory }
         requires size { size < 4 }
         ensures memory { IsMemory self.new.memory }
-        ensures comes { Comes (stored (2 ^ size) (low_bytes size rt (machine self.old)) at (machine self.old)) result (machine self.old) (machine self.new) }
+        ensures comes { Comes (stored (2 ^ size) (low_bytes size rt (machine self.old)) at (machine self.old)) result (machine self.new) }
     {
-        let number = extended_operand(1, size, 0, self.register(false, rt));
+        let number = extended_operand(Width::X, size, 0, self.register(false, rt));
         if self.memory.store(at, size, number) {
             RunEnd::Running
         } else {
@@ -169,12 +174,13 @@ impl<'a> Runner<'a> {
         requires size { size < 4 }
         requires opc { 0 < opc }
         ensures memory { IsMemory self.new.memory }
-        ensures comes { Comes (accessed size opc rt at (machine self.old)) result (machine self.old) (machine self.new) }
+        ensures comes { Comes (accessed size opc rt at (machine self.old)) result (machine self.new) }
     {
         let Some(number) = self.memory.load(at, size) else {
             return RunEnd::Trap(Trap::Fault);
         };
-        self.set_register(false, rt, loaded(size, opc >= 2, opc == 3, number));
+        let width = if opc == 3 { Width::W } else { Width::X };
+        self.set_register(false, rt, loaded(size, opc >= 2, width, number));
         RunEnd::Running
     }
 }

@@ -1,33 +1,39 @@
 //! What each instruction does.
 
-ghost use Rattle.std.specs.Prelude.{◌≡◌, [], IsTrue, IfOk};
+ghost use Rattle.std.specs.Prelude.{◌≡◌, [], IsTrue};
 ghost use Rattle.a64_inst.specs.Domain.{exec};
 ghost use Rattle.a64_inst.specs.Meaning.{ops};
 ghost use Rattle.a64_inst.specs.Table.{is_allowed};
 ghost use Rattle.a64_inst.specs.declared.inst.Inst.TheVariants.{SvcBrk};
 ghost use Rattle.num_run.specs.Numeric.{numeric};
 ghost use Rattle.num_run.specs.Run.{step};
-ghost use Rattle.num_run.specs.Mapped.{IsMemory};
+ghost use Rattle.num_run.specs.Decoded.{IsCache};
+ghost use Rattle.paged_memory.specs.Mapped.{IsMemory};
 ghost use Rattle.num_run.specs.Runner.{machine, Comes};
 
+use crate::cache::Cache;
 use crate::report::RunEnd;
 use crate::runner::Runner;
-use a64_decode::decode;
 use a64_inst::{Inst, Trap, laws};
-use std::alloc::AllocError;
 
-// What an instruction does: what the method of its row does with the row's fields, one row a line, and
-// the rows that may end the run.
+// What an instruction does: what the method of its row does with the row's fields, one row a line: first the
+// rows after which a run goes on, then those that may end it.
 macro_rules! by_row {
-    ($runner:expr, $inst:expr, $($row:ident { $($field:ident),+ } => $method:ident;)+) => {
-        match $inst {
-            $(Inst::$row { $($field),+ } => Ok($runner.$method($($field),+)),)+
+    ($runner:expr, $inst:expr,
+        $($row:ident { $($field:ident),+ } => $method:ident;)+
+        | $($access:ident { $($part:ident),+ } => $does:ident;)+) => {
+        match *$inst {
+            $(Inst::$row { $($field),+ } => {
+                $runner.$method($($field),+);
+                RunEnd::Running
+            })+
+            $(Inst::$access { $($part),+ } => $runner.$does($($part),+),)+
             Inst::SvcBrk { which: 0, imm16 } => $runner.system_call(imm16),
-            Inst::SvcBrk { imm16, .. } => Ok(RunEnd::Trap(Trap::Break(imm16))),
-            Inst::Udf { imm16 } => Ok(RunEnd::Trap(Trap::Udf(imm16))),
+            Inst::SvcBrk { imm16, .. } => RunEnd::Trap(Trap::Break(imm16)),
+            Inst::Udf { imm16 } => RunEnd::Trap(Trap::Udf(imm16)),
             Inst::Hint { .. } => {
                 $runner.advance();
-                Ok(RunEnd::Running)
+                RunEnd::Running
             }
         }
     };
@@ -35,31 +41,34 @@ macro_rules! by_row {
 
 impl<'a> Runner<'a> {
     /// Does one instruction.
+    #[inline(always)]
     #[tactic(auto, unfolding(crate::specs::Run::step))]
-    pub fn step(&mut self) -> Result<RunEnd, AllocError>
-        requires { IsMemory self.old.memory }
+    pub fn step(&mut self, cache: &mut Cache) -> RunEnd
+        requires memory { IsMemory self.old.memory }
+        requires cache { IsCache cache.old }
         ensures memory { IsMemory self.new.memory }
-        ensures comes { IfOk result (λ end. Comes (step (machine self.old)) end (machine self.old) (machine self.new)) }
+        ensures cache { IsCache cache.new }
+        ensures comes { Comes (step (machine self.old)) result (machine self.new) }
     {
         if self.place % 4 != 0 {
-            return Ok(RunEnd::Trap(Trap::Fault));
+            return RunEnd::Trap(Trap::Fault);
         }
         let Some(word) = self.memory.word(self.place) else {
-            return Ok(RunEnd::Trap(Trap::Fault));
+            return RunEnd::Trap(Trap::Fault);
         };
         laws::read_is_word();
-        match decode(word) {
-            Some(inst) => self.execute(inst),
-            None => Ok(RunEnd::Trap(Trap::Undecoded)),
+        match cache.find(self.place, word) {
+            Some(index) => self.execute(cache.inst(index)),
+            None => RunEnd::Trap(Trap::Undecoded),
         }
     }
 
     /// Does an instruction.
-    fn execute(&mut self, inst: Inst) -> Result<RunEnd, AllocError>
+    fn execute(&mut self, inst: &Inst) -> RunEnd
         requires memory { IsMemory self.old.memory }
-        requires inst { IsTrue (is_allowed inst) }
+        requires inst { IsTrue (is_allowed inst.now) }
         ensures memory { IsMemory self.new.memory }
-        ensures comes { IfOk result (λ end. Comes (exec numeric (ops inst) [] (machine self.old)) end (machine self.old) (machine self.new)) }
+        ensures comes { Comes (exec numeric (ops inst.now) [] (machine self.old)) result (machine self.new) }
     {
         by_row! { self, inst,
             AdrAdrp { op, lo, hi, rd } => adr_adrp;
@@ -82,7 +91,7 @@ impl<'a> Runner<'a> {
             CbzCbnz { sf, op, imm19, rt } => cbz_cbnz;
             TbzTbnz { b5, op, b40, imm14, rt } => tbz_tbnz;
             BrBlrRet { which, rn } => br_blr_ret;
-            Literal { opc, imm19, rt } => literal;
+            | Literal { opc, imm19, rt } => literal;
             Scaled { size, opc, imm12, rn, rt } => scaled;
             UnscaledPostPre { size, opc, imm9, idx, rn, rt } => unscaled_post_pre;
             Register { size, opc, rm, option, s, rn, rt } => register_offset;
@@ -91,15 +100,15 @@ impl<'a> Runner<'a> {
     }
 
     /// SVC.
-    fn system_call(&mut self, imm16: u16) -> Result<RunEnd, AllocError>
+    fn system_call(&mut self, imm16: u16) -> RunEnd
         requires { IsMemory self.old.memory }
         ensures memory { IsMemory self.new.memory }
-        ensures comes { IfOk result (λ end. Comes (exec numeric (ops (SvcBrk 0 imm16)) [] (machine self.old)) end (machine self.old) (machine self.new)) }
+        ensures comes { Comes (exec numeric (ops (SvcBrk 0 imm16)) [] (machine self.old)) result (machine self.new) }
     {
-        let end = self.call(imm16)?;
+        let end = self.call(imm16);
         if let RunEnd::Running = end {
             self.advance();
         }
-        Ok(end)
+        end
     }
 }

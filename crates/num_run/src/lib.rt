@@ -4,29 +4,22 @@
 mod access;
 mod arithmetic;
 mod branches;
+mod cache;
 mod call;
 mod execute;
-mod fields;
-mod flags;
 pub mod laws;
 mod logic;
-mod memory;
-mod numbers;
+mod output;
 mod pairs;
-mod products;
-mod region;
 mod report;
 mod results;
 mod run;
 mod runner;
-mod shifts;
+mod running;
 mod sources;
-mod sums;
-mod turned;
+mod steps;
 
 pub use a64_inst::Trap;
 pub use report::{RunEnd, RunReport};
 pub use run::run_image;
-
-#[cfg(test)]
-mod tests;
+pub use running::Machine;

@@ -8,16 +8,16 @@ ghost use Rattle.a64_inst.specs.declared.inst.Inst.TheVariants.{Pair};
 ghost use Rattle.a64_inst.specs.Numbers.{low, sign_extended};
 ghost use Rattle.num_run.specs.Numeric.{numeric};
 ghost use Rattle.num_run.specs.Access.{pair_accessed, pair_loaded, pair_stored, advanced, moved};
-ghost use Rattle.num_run.specs.Mapped.{IsMemory};
+ghost use Rattle.paged_memory.specs.Mapped.{IsMemory};
 ghost use Rattle.num_run.specs.Runner.{machine, Comes};
 
-use crate::memory::byte_count;
-use crate::numbers::sign_extended;
 use crate::report::RunEnd;
 use crate::runner::Runner;
-use crate::shifts::{extended_operand, loaded};
-use crate::sums::sum;
-use a64_inst::Trap;
+use a64_inst::{Sum, Trap, Width};
+use a64_numbers::numbers::sign_extended;
+use a64_numbers::shifts::{extended_operand, loaded};
+use a64_numbers::sums::sum;
+use paged_memory::byte_count;
 
 /// The bytes of each register of a pair, as a power of 2.
 #[inline(always)]
@@ -33,7 +33,7 @@ fn size_of_each(opc: u8) -> u8
 fn pair_offset(opc: u8, imm7: u8) -> u64
     ensures { result ≡ low 64 (sign_extended 7 64 imm7 * 2 ^ pair_size opc) }
 {
-    sign_extended(1, 7, u64::from(imm7)).wrapping_mul(byte_count(size_of_each(opc)))
+    sign_extended(Width::X, 7, u64::from(imm7)).wrapping_mul(byte_count(size_of_each(opc)))
 }
 
 impl<'a> Runner<'a> {
@@ -42,10 +42,10 @@ impl<'a> Runner<'a> {
         requires memory { IsMemory self.old.memory }
         requires inst { IsTrue (is_allowed (Pair opc idx l imm7 rt2 rn rt)) }
         ensures memory { IsMemory self.new.memory }
-        ensures comes { Comes (exec numeric (ops (Pair opc idx l imm7 rt2 rn rt)) [] (machine self.old)) result (machine self.old) (machine self.new) }
+        ensures comes { Comes (exec numeric (ops (Pair opc idx l imm7 rt2 rn rt)) [] (machine self.old)) result (machine self.new) }
     {
         let base = self.register(true, rn);
-        let moved = sum(false, 1, base, pair_offset(opc, imm7));
+        let moved = sum(Sum::Add, Width::X, base, pair_offset(opc, imm7));
         match idx {
             1 => self.pair_and_move(opc, l, rt, rt2, base, rn, moved),
             2 => self.pair_only(opc, l, rt, rt2, moved),
@@ -58,7 +58,7 @@ impl<'a> Runner<'a> {
     fn pair_only(&mut self, opc: u8, l: u8, rt: u8, rt2: u8, at: u64) -> RunEnd
         requires { IsMemory self.old.memory }
         ensures memory { IsMemory self.new.memory }
-        ensures comes { Comes (then_do (pair_accessed opc l rt rt2 at (machine self.old)) advanced) result (machine self.old) (machine self.new) }
+        ensures comes { Comes (then_do (pair_accessed opc l rt rt2 at (machine self.old)) advanced) result (machine self.new) }
     {
         match self.pair_access(opc, l, rt, rt2, at) {
             RunEnd::Running => {
@@ -83,7 +83,7 @@ impl<'a> Runner<'a> {
     ) -> RunEnd
         requires { IsMemory self.old.memory }
         ensures memory { IsMemory self.new.memory }
-        ensures comes { Comes (then_do (pair_accessed opc l rt rt2 at (machine self.old)) (moved rn base)) result (machine self.old) (machine self.new) }
+        ensures comes { Comes (then_do (pair_accessed opc l rt rt2 at (machine self.old)) (moved rn base)) result (machine self.new) }
     {
         let end = self.pair_only(opc, l, rt, rt2, at);
         if let RunEnd::Running = end {
@@ -96,7 +96,7 @@ impl<'a> Runner<'a> {
     fn pair_access(&mut self, opc: u8, l: u8, rt: u8, rt2: u8, at: u64) -> RunEnd
         requires { IsMemory self.old.memory }
         ensures memory { IsMemory self.new.memory }
-        ensures comes { Comes (pair_accessed opc l rt rt2 at (machine self.old)) result (machine self.old) (machine self.new) }
+        ensures comes { Comes (pair_accessed opc l rt rt2 at (machine self.old)) result (machine self.new) }
     {
         let size = size_of_each(opc);
         if l == 1 {
@@ -112,16 +112,19 @@ impl<'a> Runner<'a> {
         requires memory { IsMemory self.old.memory }
         requires size { size < 4 }
         ensures memory { IsMemory self.new.memory }
-        ensures comes { Comes (pair_loaded (2 ^ size) signed rt rt2 at (machine self.old)) result (machine self.old) (machine self.new) }
+        ensures comes { Comes (pair_loaded (2 ^ size) signed rt rt2 at (machine self.old)) result (machine self.new) }
     {
         let Some(first) = self.memory.load(at, size) else {
             return RunEnd::Trap(Trap::Fault);
         };
-        let Some(second) = self.memory.load(sum(false, 1, at, byte_count(size)), size) else {
+        let Some(second) = self
+            .memory
+            .load(sum(Sum::Add, Width::X, at, byte_count(size)), size)
+        else {
             return RunEnd::Trap(Trap::Fault);
         };
-        self.set_register(false, rt, loaded(size, signed, false, first));
-        self.set_register(false, rt2, loaded(size, signed, false, second));
+        self.set_register(false, rt, loaded(size, signed, Width::X, first));
+        self.set_register(false, rt2, loaded(size, signed, Width::X, second));
         RunEnd::Running
     }
 
@@ -131,17 +134,14 @@ impl<'a> Runner<'a> {
         requires memory { IsMemory self.old.memory }
         requires size { size < 4 }
         ensures memory { IsMemory self.new.memory }
-        ensures comes { Comes (pair_stored size rt rt2 at (machine self.old)) result (machine self.old) (machine self.new) }
+        ensures comes { Comes (pair_stored size rt rt2 at (machine self.old)) result (machine self.new) }
     {
-        let first = extended_operand(1, size, 0, self.register(false, rt));
-        let second = extended_operand(1, size, 0, self.register(false, rt2));
+        let first = extended_operand(Width::X, size, 0, self.register(false, rt));
+        let second = extended_operand(Width::X, size, 0, self.register(false, rt2));
         if !self.memory.store(at, size, first) {
             return RunEnd::Trap(Trap::Fault);
         }
-        if !self
-            .memory
-            .store(sum(false, 1, at, byte_count(size)), size, second)
-        {
+        if !self.memory.store(sum(Sum::Add, Width::X, at, byte_count(size)), size, second) {
             return RunEnd::Trap(Trap::Fault);
         }
         RunEnd::Running

@@ -3,24 +3,17 @@ ghost use Rattle.link_image.specs.Valid.{image_ok};
 ghost use Rattle.num_run.specs.Machine.{register, with_register};
 ghost use Rattle.num_run.specs.Numeric.{at_place};
 ghost use Rattle.num_run.specs.Run.{start};
-ghost use Rattle.num_run.specs.Mapped.{IsMemory};
+ghost use Rattle.paged_memory.specs.Mapped.{IsMemory};
 ghost use Rattle.num_run.specs.Runner.{machine};
 
-use crate::memory::Memory;
+use crate::output::Output;
+use a64_inst::Flags;
 use link_image::Image;
+use paged_memory::Memory;
 use std::alloc::{AllocError, Global};
 
-/// The flags that instructions set and test.
-#[derive(Clone, Copy, Debug)]
-pub struct Flags {
-    pub n: bool,
-    pub z: bool,
-    pub c: bool,
-    pub v: bool,
-}
-
 /// The machine while it runs.
-#[derive(Debug, Drop)]
+#[derive(Drop)]
 pub struct Runner<'a> {
     /// X0 to X30.
     pub registers: [u64; 31],
@@ -31,7 +24,7 @@ pub struct Runner<'a> {
     pub place: u64,
     /// What is left of the input.
     pub input: &'a [u8],
-    pub output: Vec<u8>,
+    pub output: Output,
 }
 
 impl<'a> Runner<'a> {
@@ -53,7 +46,7 @@ impl<'a> Runner<'a> {
             memory: Memory::new(alloc, image)?,
             place: image.entry,
             input,
-            output: Vec::new(alloc),
+            output: Output::new(alloc)?,
         })
     }
 

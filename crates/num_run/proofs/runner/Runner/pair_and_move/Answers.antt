@@ -9,5 +9,5 @@ returns-in_default c =
     let a = c.args in
     record {
       memory = c.pair_only-end.ensures.memory;
-      comes = still_ends (pair_accessed a.opc a.l a.rt a.rt2 a.at m) a.rn a.base c.pair_only-end.result m (machine c.pair_only-end.new.self) c.pair_only-end.ensures.comes c.in_default.not-Running;
+      comes = still_ends (pair_accessed a.opc a.l a.rt a.rt2 a.at m) a.rn a.base c.pair_only-end.result (machine c.pair_only-end.new.self) c.pair_only-end.ensures.comes c.in_default.not-Running;
     }

@@ -1,4 +1,6 @@
-use Rattle.std.proofs.Common.{◌≡◌, ℕ, ◌+◌, ◌*◌, ◌%◌, ◌^◌, sym, ap, ◌∙◌}
+use Rattle.std.proofs.Common.{◌≡◌, ℕ, sym, ap, ap₂, ◌∙◌}
+use Rattle.a64_inst.specs.declared.operations.Sum.TheVariants.{Add}
+use Rattle.a64_inst.specs.Numbers.{sum_value}
 use Rattle.a64_inst.specs.Domain.{then_do}
 use Rattle.num_run.specs.Access.{accessed, advanced}
 use Rattle.num_run.specs.Runner.{machine}
@@ -9,6 +11,6 @@ pub returns-clause-comes : goal.returns-clause-comes
 returns-clause-comes c =
     let m = machine c.args.self.now in
     let a = c.args in
-    let at : (c.register.result + c.from.result * c.byte_count.result) % 2 ^ 64 ≡ scaled_sum a.size a.imm12 a.rn m = cc (c.register.ensures, c.from.ensures, c.byte_count.ensures.count) in
-    comes_as _ _ c.access_only.result m (machine c.access_only.new.self)
+    let at : c.sum-at.result ≡ scaled_sum a.size a.imm12 a.rn m = c.sum-at.ensures ∙ ap₂ (sum_value Add 64) c.register.ensures (cc (c.from.ensures, c.byte_count.ensures.count)) in
+    comes_as _ _ c.access_only.result (machine c.access_only.new.self)
     (scaled_is a.size a.opc a.imm12 a.rn a.rt m ∙ ap (λ (x : ℕ). then_do (accessed a.size a.opc a.rt x m) advanced) (sym at)) c.access_only.ensures.comes

@@ -1,6 +1,0 @@
-use Rattle.num_run.proofs.Loads.{number_in}
-use Rattle.num_run.proofs.memory.Memory.word_elsewhere.Goals as goal
-
-pub returns-in-Some-clause-word : goal.returns-in-Some-clause-word
-returns-in-Some-clause-word c =
-    number_in c.args.self.now.regions.items c.in_ok-self.field-0 c.args.at 4 c.in-Some.word c.index.result.now c.requires.regions c.in_ok-self.ensures.within c.index.ensures c.in-Some.ensures.has c.in-Some.ensures.number
