@@ -7,7 +7,7 @@ use Rattle.indexmap.specs.IndexMap.{IndexMap, get}
 use Rattle.node_arena.specs.declared.arena.Arena.{Arena}
 use Rattle.node_arena.specs.declared.ids.NodeRef.{NodeRef}
 use Rattle.node_arena.specs.Arenas.{Arenas}
-use Rattle.node_arena.specs.Sound.{sound, Finds}
+use Rattle.node_arena.specs.Sound.{sound, Finds, ref_id}
 
 abbrev pub arenas_of : Arena → Arenas
 arenas_of a = record {
@@ -28,6 +28,10 @@ arenas_of a = record {
 
 abbrev pub Index : Type 0
 Index = IndexMap (List ℕ) NodeRef (BuildHasherDefault FoldHasher)
+
+-- the entry of a node
+abbrev pub entry_of : Arenas → NodeRef → List ℕ × NodeRef
+entry_of g r = (ref_id g r, r)
 
 -- the index finds the nodes, and the graph is sound
 pub record Holds (a : Arena) (index : Index) : Type 0 where

@@ -9,3 +9,7 @@ pub mod Points
 pub mod Expressions
 pub mod Linkable
 pub mod TableOk
+pub mod Shapes
+pub mod Layouts
+pub mod Placing
+pub mod Images

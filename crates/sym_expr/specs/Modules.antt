@@ -10,6 +10,7 @@ use Rattle.gt_model.specs.declared.intervals.Body.TheVariants as bodies
 use Rattle.gt_model.specs.declared.intervals.Interval.{Interval}
 use Rattle.gt_model.specs.declared.modules.Module.{Module}
 use Rattle.gt_model.specs.declared.modules.Section.{Section}
+use Rattle.uuid.specs.Parts.{zero_bytes}
 
 -- the section has a flag: GTIRB's Loaded is 4, ThreadLocal 6
 abbrev pub has_flag : ℕ → Section → Bool
@@ -30,9 +31,9 @@ loaded_intervals m = intervals_of (loaded_sections m)
 abbrev pub blocks_of : List Interval → List Block
 blocks_of intervals = flat_map (λ (i : Interval). i.blocks) intervals
 
--- the identifier of a block, where it has one, and its size
+-- the identifier of a block, nil for one that has none, and its size
 abbrev pub id_of_body : Body → List ℕ
-id_of_body bodies.Bare = []
+id_of_body bodies.Bare = zero_bytes
 id_of_body (bodies.Code uuid size decode_mode) = uuid
 id_of_body (bodies.Data uuid size) = uuid
 
