@@ -9,8 +9,8 @@ use Rattle.pb_wire.specs.Reading.{varint_of, record_of}
 use Rattle.pb_wire.specs.Records.{IsPayload, Spells}
 use Rattle.pb_wire.specs.Varint.{IsVarint}
 use Rattle.gt_model.specs.Typed.{AreBytes}
-use Rattle.gt_read.specs.Pieces.{Carried, Number, Bytes, Fixed, Piece, Walk, carried_of, piece_of, put_first, walk_on, walk_within, pieces}
-use Rattle.gt_read.specs.Kinds.{Packed, put_number, packed_on, packed_within, packed}
+use Rattle.gt_read.specs.Pieces.{Carried, Number, Bytes, Fixed, Piece, carried_of, piece_of, put_first, walk_on, walk_within, pieces}
+use Rattle.gt_read.specs.Kinds.{put_number, packed_on, packed_within, packed}
 
 abbrev pub GoodCarried : Carried → Type 0
 GoodCarried (Number n) = n < 2 ^ 64

@@ -13,12 +13,12 @@ use Rattle.pb_wire.specs.declared.records.Load.{Load}
 use Rattle.pb_wire.specs.declared.records.Load.TheVariants as loads
 use Rattle.pb_wire.specs.declared.records.Record.{Record}
 use Rattle.pb_wire.specs.Reading.{record_of}
-use Rattle.pb_wire.specs.Records.{IsPayload, Spells}
+use Rattle.pb_wire.specs.Records.{IsPayload}
 use Rattle.pb_wire.specs.Varint.{Continues}
 use Rattle.gt_model.specs.Schema.{Kind, Id, OptionalId, Text, Blob, Unsigned64, Signed64, Unsigned32, Signed32, Flag, Key, key_kind, Row, field, repeated, message, messages, member, member_message, entries, Rows, none, ◌&◌, table_rows, label_rows, edge_rows, cfg_rows, addr_addr_rows, addr_const_rows, expr_rows, symbol_rows, proxy_rows, data_rows, code_rows, block_rows, interval_rows, section_rows, module_rows, ir_rows}
 use Rattle.gt_model.specs.Typed.{AreBytes}
 use Rattle.gt_read.specs.declared.fault.FormatFault.{FormatFault}
-use Rattle.gt_read.specs.declared.fault.FormatFault.TheVariants.{Wire, Utf8}
+use Rattle.gt_read.specs.declared.fault.FormatFault.TheVariants.{Utf8}
 use Rattle.gt_read.specs.Pieces.{Carried, Number, Bytes, Fixed, Piece, Walk, piece_of, carried_of, put_first, walk_on, walk_within}
 use Rattle.gt_read.specs.Kinds.{is_varint_kind, packed}
 use Rattle.gt_read.specs.Faults.{text_faults, failed_at, packed_faults, broken_faults, in_run, at_number, message_faults, entry_faults, field_faults, piece_faults, faults, first_of}
