@@ -1,3 +1,4 @@
+mod ReplacedBits
 mod Joining
 pub mod Splitting
 pub mod Apart

@@ -8,3 +8,5 @@ pub mod Domain
 pub mod Meaning
 pub mod Runs
 pub mod RunLaws
+pub mod Kinds
+pub mod Fitting

@@ -1,10 +1,13 @@
 pub mod Again
 pub mod Chosen
+pub mod Halting
+pub mod Halts
 pub mod Index
 pub mod Kept
 pub mod Loops
 pub mod Replacing
 pub mod Scalars
+pub mod Standing
 pub mod Takes
 pub mod Units
 pub mod Views

@@ -23,6 +23,21 @@ done x = Ok x
 pub ok_is : {A : Type 0} (x y : A) → done x ≡ done y → x ≡ y
 ok_is x y e = cc
 
+abbrev failed : {A : Type 0} → AuxFault → Result A AuxFault
+failed e = Err e
+
+pub err_is : {A : Type 0} (d e : AuxFault) → failed {A = A} d ≡ failed e → d ≡ e
+err_is d e h = cc
+
+-- a value is no fault
+pub no_value : {A : Type 0} (x : A) (e : AuxFault) → done x ≡ Err e → ⊥
+no_value x e h = cc
+
+-- the fault of two steps is the first one's or the second one's
+pub bind_err : {A B : Type 0} (r : Result A AuxFault) (f : A → Result B AuxFault) (e : AuxFault) → (r >>= f) ≡ Err e → (r ≡ Err e) ⊎ ((x : A) × (r ≡ Ok x) × (f x ≡ Err e))
+bind_err (Ok x) f e h = inr (x, refl, h)
+bind_err {B = B} (Err d) f e h = inl (ap (λ (x : AuxFault). Err x) (err_is {A = B} d e h))
+
 -- a test that did not fail
 pub guard_ok : {A : Type 0} (b : Bool) (d : AuxFault) (x y : A) → cond b (Ok x) (Err d) ≡ Ok y → (b ≡ true) × (x ≡ y)
 guard_ok true d x y e = (refl, cc)

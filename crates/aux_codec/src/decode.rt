@@ -1,9 +1,11 @@
-ghost use Rattle.std.specs.Prelude.{◌≡◌, ◌≤◌, ◌-◌, [], length, map, take, Ok, IfOk};
+ghost use Rattle.std.specs.Prelude.{◌≡◌, ◌≤◌, ◌-◌, ◌||◌, ℕ, List, [], length, map, take, Ok, IfOk};
+ghost use Rattle.std.specs.List.{list_any};
+ghost use Rattle.std.specs.Str.{bytes_eq};
 ghost use Rattle.aux_types.specs.Gives.{Gives};
-ghost use Rattle.aux_types.specs.Shape.{shape_of, shapes, IsNamed};
+ghost use Rattle.aux_types.specs.Shape.{Sequence, Set, Mapping, Tuple, Variant, shape_of, shapes, IsNamed};
 ghost use Rattle.aux_codec.specs.Value.{Value, value_of, entry_of, values, entries};
 ghost use Rattle.aux_codec.specs.Spelling.{spelling, aux_bytes};
-ghost use Rattle.aux_codec.specs.Reading.{members, distinct, pairs, parts_at, value_at, read_value};
+ghost use Rattle.aux_codec.specs.Reading.{fresh_at, members, distinct, pairs, parts_at, value_at, read_value};
 
 use crate::part::part;
 use crate::scalar::scalar_at;
@@ -43,6 +45,25 @@ fn members<'a>(
     Ok((found, rest))
 }
 
+/// The value at the front, unless one with its bytes was seen before. It is seen from then on.
+#[cycle(value_at)]
+fn fresh_at<'a>(
+    alloc: Global,
+    total: usize,
+    of: &AuxType,
+    seen: &mut Seen<'a>,
+    bytes: &'a [u8],
+) -> Read<'a, AuxValue>
+    ensures read { Gives (λ x. (value_of x.0, x.1.now)) result (fresh_at total (value_at total (shape_of of.now)) (spelling (shape_of of.now)) seen.old bytes.now) }
+    ensures has { IfOk result (λ x. (q : List ℕ) → list_any (bytes_eq q) seen.new ≡ (bytes_eq q (spelling (shape_of of.now) (value_of x.0)) || list_any (bytes_eq q) seen.old)) }
+{
+    let (value, after) = value_at(alloc, total, of, bytes)?;
+    if !seen.insert(taken(bytes, after))? {
+        return Err(End::Fault(AuxFault::Duplicate(place(total, bytes))));
+    }
+    Ok((value, after))
+}
+
 /// So many members, none of which comes twice.
 #[cycle(value_at)]
 fn distinct<'a>(
@@ -58,10 +79,7 @@ fn distinct<'a>(
     let mut seen = Seen::new(alloc);
     let mut rest = bytes;
     for _ in 0..count {
-        let (value, after) = value_at(alloc, total, of, rest)?;
-        if !seen.insert(taken(rest, after))? {
-            return Err(End::Fault(AuxFault::Duplicate(place(total, rest))));
-        }
+        let (value, after) = fresh_at(alloc, total, of, &mut seen, rest)?;
         found.push(value)?;
         rest = after;
     }
@@ -90,10 +108,7 @@ fn pairs<'a>(
     let mut seen = Seen::new(alloc);
     let mut rest = bytes;
     for _ in 0..count {
-        let (key, after) = value_at(alloc, total, key_type, rest)?;
-        if !seen.insert(taken(rest, after))? {
-            return Err(End::Fault(AuxFault::Duplicate(place(total, rest))));
-        }
+        let (key, after) = fresh_at(alloc, total, key_type, &mut seen, rest)?;
         let (value, after) = value_at(alloc, total, value_type, after)?;
         found.push(pair(key, value))?;
         rest = after;
@@ -121,6 +136,79 @@ fn parts_at<'a>(
     Ok((found, rest))
 }
 
+/// A count, and that many members.
+#[cycle(value_at)]
+fn sequence_at<'a>(
+    alloc: Global,
+    total: usize,
+    inner: &AuxType,
+    bytes: &'a [u8],
+) -> Read<'a, AuxValue>
+    ensures { Gives (λ x. (value_of x.0, x.1.now)) result (value_at total (Sequence (shape_of inner.now)) bytes.now) }
+{
+    let (count, rest) = u64_at(total, bytes)?;
+    let (found, rest) = members(alloc, total, inner, count, rest)?;
+    Ok((AuxValue::Many(found), rest))
+}
+
+/// A count, and that many members, none of which comes twice.
+#[cycle(value_at)]
+fn set_at<'a>(alloc: Global, total: usize, inner: &AuxType, bytes: &'a [u8]) -> Read<'a, AuxValue>
+    ensures { Gives (λ x. (value_of x.0, x.1.now)) result (value_at total (Set (shape_of inner.now)) bytes.now) }
+{
+    let (count, rest) = u64_at(total, bytes)?;
+    let (found, rest) = distinct(alloc, total, inner, count, rest)?;
+    Ok((AuxValue::Many(found), rest))
+}
+
+/// A count, and that many entries, none of whose keys comes twice.
+#[cycle(value_at)]
+fn mapping_at<'a>(
+    alloc: Global,
+    total: usize,
+    key: &AuxType,
+    value: &AuxType,
+    bytes: &'a [u8],
+) -> Read<'a, AuxValue>
+    ensures { Gives (λ x. (value_of x.0, x.1.now)) result (value_at total (Mapping (shape_of key.now) (shape_of value.now)) bytes.now) }
+{
+    let (count, rest) = u64_at(total, bytes)?;
+    let (found, rest) = pairs(alloc, total, key, value, count, rest)?;
+    Ok((AuxValue::Pairs(found), rest))
+}
+
+/// A value for each part.
+#[cycle(value_at)]
+fn tuple_at<'a>(
+    alloc: Global,
+    total: usize,
+    types: &[AuxType],
+    bytes: &'a [u8],
+) -> Read<'a, AuxValue>
+    ensures { Gives (λ x. (value_of x.0, x.1.now)) result (value_at total (Tuple (shapes (map shape_of types.now))) bytes.now) }
+{
+    let (found, rest) = parts_at(alloc, total, types, bytes)?;
+    Ok((AuxValue::Parts(found), rest))
+}
+
+/// The index of a part, and a value of it.
+#[cycle(value_at)]
+fn variant_at<'a>(
+    alloc: Global,
+    total: usize,
+    types: &[AuxType],
+    bytes: &'a [u8],
+) -> Read<'a, AuxValue>
+    ensures { Gives (λ x. (value_of x.0, x.1.now)) result (value_at total (Variant (shapes (map shape_of types.now))) bytes.now) }
+{
+    let (index, rest) = u64_at(total, bytes)?;
+    let Some(chosen) = part(types, index) else {
+        return Err(End::Fault(AuxFault::BadVariant(place(total, bytes))));
+    };
+    let (value, rest) = value_at(alloc, total, chosen, rest)?;
+    Ok((AuxValue::Choice(index, Box::new(alloc, value)?), rest))
+}
+
 /// The value at the front.
 #[cycle(value_at)]
 fn value_at<'a>(alloc: Global, total: usize, of: &AuxType, bytes: &'a [u8]) -> Read<'a, AuxValue>
@@ -128,33 +216,11 @@ fn value_at<'a>(alloc: Global, total: usize, of: &AuxType, bytes: &'a [u8]) -> R
 {
     match of.kind() {
         Kind::Scalar(scalar) => scalar_at(alloc, total, scalar, bytes),
-        Kind::Sequence(inner) => {
-            let (count, rest) = u64_at(total, bytes)?;
-            let (found, rest) = members(alloc, total, inner, count, rest)?;
-            Ok((AuxValue::Many(found), rest))
-        }
-        Kind::Set(inner) => {
-            let (count, rest) = u64_at(total, bytes)?;
-            let (found, rest) = distinct(alloc, total, inner, count, rest)?;
-            Ok((AuxValue::Many(found), rest))
-        }
-        Kind::Mapping(key, value) => {
-            let (count, rest) = u64_at(total, bytes)?;
-            let (found, rest) = pairs(alloc, total, key, value, count, rest)?;
-            Ok((AuxValue::Pairs(found), rest))
-        }
-        Kind::Tuple(types) => {
-            let (found, rest) = parts_at(alloc, total, types, bytes)?;
-            Ok((AuxValue::Parts(found), rest))
-        }
-        Kind::Variant(types) => {
-            let (index, rest) = u64_at(total, bytes)?;
-            let Some(chosen) = part(types, index) else {
-                return Err(End::Fault(AuxFault::BadVariant(place(total, bytes))));
-            };
-            let (value, rest) = value_at(alloc, total, chosen, rest)?;
-            Ok((AuxValue::Choice(index, Box::new(alloc, value)?), rest))
-        }
+        Kind::Sequence(inner) => sequence_at(alloc, total, inner, bytes),
+        Kind::Set(inner) => set_at(alloc, total, inner, bytes),
+        Kind::Mapping(key, value) => mapping_at(alloc, total, key, value, bytes),
+        Kind::Tuple(types) => tuple_at(alloc, total, types, bytes),
+        Kind::Variant(types) => variant_at(alloc, total, types, bytes),
     }
 }
 

@@ -202,9 +202,3 @@ pub fn encode_aux(alloc: Global, of: &AuxType, value: &AuxValue) -> Result<Bytes
     put_value(&mut out, of, value)?;
     Ok(Bytes::from_vec(out))
 }
-
-/// A value of a type has one spelling, and no other value has it.
-pub fn one_spelling()
-    ensures bytes { (t : AuxType) (x : Value) (a b : List ℕ) → aux_bytes t x a → aux_bytes t x b → a ≡ b }
-    ensures value { (t : AuxType) (x y : Value) (bytes : List ℕ) → aux_bytes t x bytes → aux_bytes t y bytes → x ≡ y }
-{}

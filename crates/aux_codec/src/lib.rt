@@ -3,17 +3,16 @@
 
 mod decode;
 mod encode;
+pub mod laws;
 mod part;
 mod places;
 mod scalar;
 mod seen;
-#[cfg(test)]
-mod tests;
 mod unit;
 mod value;
 
 pub use decode::decode_aux;
-pub use encode::{encode_aux, one_spelling};
+pub use encode::encode_aux;
 pub use gr_base::AuxFault;
 pub use places::{Places, map_places};
 pub use value::{AuxPair, AuxValue, Place};

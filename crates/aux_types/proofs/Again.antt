@@ -9,10 +9,11 @@ use Rattle.aux_types.specs.Shape.{Shape, Plain, Sequence, Set, Mapping, Tuple, V
 use Rattle.aux_types.specs.Reading.{Read, after_word, one, two, parts, all_parts, inside, type_at, read_type}
 use Rattle.aux_types.proofs.Words.{scalar_again, container_again, container_no_scalar, scalar_word, container_word, EndsWord, word_again, after_word_again}
 use Rattle.aux_types.proofs.Names.{at_room, type_is_scalar, type_is_container}
+use Rattle.aux_types.proofs.Takes.{Ends, ends_before}
 
--- what reads each type in which so many brackets nest at most, whatever stands behind its name
-abbrev Reads : ℕ → (List ℕ → Read Shape) → Type 0
-Reads room inner = (t : Shape) (rest : List ℕ) → HasParts t → nesting t ≤ room → EndsWord rest → inner (name t ++ rest) ≡ Ok (t, rest)
+-- what reads each type in which so many brackets nest at most, whatever stands behind its name and doesn't go on with it
+abbrev pub Reads : ℕ → (List ℕ → Read Shape) → Type 0
+Reads room inner = (t : Shape) (rest : List ℕ) → HasParts t → nesting t ≤ room → Ends t rest → inner (name t ++ rest) ≡ Ok (t, rest)
 
 -- ---- the parts
 
@@ -36,9 +37,9 @@ module _ (room : ℕ) (inner : List ℕ → Read Shape) (reads : Reads room inne
   parts_again : (t : Shape) (ts : Shapes) (n : ℕ) (rest : List ℕ) → HasParts t → AllHaveParts ts → nesting t ≤ room → nesting_of_parts ts ≤ room → count ts < n → parts inner total n (name t ++ (names_behind ts ++ 62 ∷ rest)) ≡ Ok (more t ts, rest)
   unfolding count
   parts_again t ts zero rest has all nests nest lt = absurd (omega arith)
-  parts_again t none (suc n) rest has all nests nest lt = rw (reads t (62 ∷ rest) has nests refl) refl
+  parts_again t none (suc n) rest has all nests nest lt = rw (reads t (62 ∷ rest) has nests (ends_before t (62 ∷ rest) refl)) refl
   parts_again t (more u us) (suc n) rest has all nests nest lt =
-      let first : inner (name t ++ (names_behind (more u us) ++ 62 ∷ rest)) ≡ Ok (t, names_behind (more u us) ++ 62 ∷ rest) = reads t (names_behind (more u us) ++ 62 ∷ rest) has nests refl in
+      let first : inner (name t ++ (names_behind (more u us) ++ 62 ∷ rest)) ≡ Ok (t, names_behind (more u us) ++ 62 ∷ rest) = reads t (names_behind (more u us) ++ 62 ∷ rest) has nests (ends_before t (names_behind (more u us) ++ 62 ∷ rest) refl) in
       let next : parts inner total n (name u ++ (names_behind us ++ 62 ∷ rest)) ≡ Ok (more u us, rest) = parts_again u us n rest all.0 all.1 (omega arith) (omega arith) (omega arith) in
       rw (first, append_assoc (name u) (names_behind us) (62 ∷ rest), next) refl
 
@@ -52,12 +53,12 @@ module _ (room : ℕ) (inner : List ℕ → Read Shape) (reads : Reads room inne
 
   one_again : (t : Shape) (rest : List ℕ) → HasParts t → nesting t ≤ room → one inner total (name t ++ 62 ∷ rest) ≡ Ok (t, rest)
   unfolding one
-  one_again t rest has nests = rw (reads t (62 ∷ rest) has nests refl) refl
+  one_again t rest has nests = rw (reads t (62 ∷ rest) has nests (ends_before t (62 ∷ rest) refl)) refl
 
   two_again : (k v : Shape) (rest : List ℕ) → HasParts k → HasParts v → nesting k ≤ room → nesting v ≤ room → two inner total (name k ++ 44 ∷ (name v ++ 62 ∷ rest)) ≡ Ok ((k, v), rest)
   unfolding two
   two_again k v rest has_k has_v nests_k nests_v =
-      rw (reads k (44 ∷ (name v ++ 62 ∷ rest)) has_k nests_k refl, one_again v rest has_v nests_v) refl
+      rw (reads k (44 ∷ (name v ++ 62 ∷ rest)) has_k nests_k (ends_before k (44 ∷ (name v ++ 62 ∷ rest)) refl), one_again v rest has_v nests_v) refl
 
 -- ---- a whole type
 
@@ -77,7 +78,7 @@ scalar_reads total room k rest ends =
     let w = word_again (scalar_text k) rest (scalar_word k) ends in
     type_is_scalar total room (scalar_text k ++ rest) k (ap scalar_named w ∙ scalar_again k) ∙ rw (after_word_again (scalar_text k) rest (scalar_word k) ends) refl
 
-type_again : (total room : ℕ) → Reads room (type_at total room)
+pub type_again : (total room : ℕ) → Reads room (type_at total room)
 unfolding inside
 type_again total room (Plain k) rest has nests ends = scalar_reads total room k rest ends
 type_again total zero (Sequence t) rest has nests ends = absurd (omega arith)
@@ -106,5 +107,5 @@ type_again total (suc room) (Variant ts) rest has nests ends =
 pub name_again : (t : Shape) → IsNamed t → read_type (name t) ≡ Ok t
 unfolding read_type
 name_again t named =
-    let whole : type_at (length (name t)) 32 (name t) ≡ Ok (t, []) = ap (type_at (length (name t)) 32) (sym (append-nil (name t))) ∙ type_again (length (name t)) 32 t [] named.parts named.nests refl in
+    let whole : type_at (length (name t)) 32 (name t) ≡ Ok (t, []) = ap (type_at (length (name t)) 32) (sym (append-nil (name t))) ∙ type_again (length (name t)) 32 t [] named.parts named.nests (ends_before t [] refl) in
     rw whole refl

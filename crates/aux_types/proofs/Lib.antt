@@ -2,7 +2,10 @@ pub mod Again
 pub mod Inverse
 pub mod Names
 pub mod Parts
+pub mod Standing
 pub mod Steps
+pub mod Stopping
+pub mod Stops
 pub mod Takes
 pub mod Whole
 pub mod Words

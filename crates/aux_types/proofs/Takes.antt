@@ -12,13 +12,29 @@ use Rattle.aux_types.specs.Names.{scalar_text, container_text, scalar_named, con
 use Rattle.aux_types.specs.Shape.{Shape, Plain, Sequence, Set, Mapping, Tuple, Variant, Shapes, none, more, name, names, names_behind, nesting, nesting_of_parts, HasParts, SomeHaveParts, AllHaveParts}
 use Rattle.aux_types.specs.Reading.{Read, unexpected, expect, word, after_word, one, two, separator, others, parts, all_parts, inside, opened, refused, by_name, type_at}
 use Rattle.aux_types.proofs.Steps.{bind_ok, ok_is, chosen, expect_takes}
-use Rattle.aux_types.proofs.Words.{scalar_is, container_is, word_parts}
+use Rattle.aux_types.proofs.Words.{EndsWord, after_ends, scalar_is, container_is, word_parts}
 
--- a type that was read: its name stood there, it has its parts, and so many brackets nest at most
+-- a type's name ends here: no word goes on where it ends in a word
+abbrev pub Ends : Shape → List ℕ → Type 0
+Ends (Plain k) rest = EndsWord rest
+Ends _ rest = Unit {0}
+
+-- where no word goes on each name ends
+pub ends_before : (t : Shape) (rest : List ℕ) → EndsWord rest → Ends t rest
+ends_before (Plain k) rest e = e
+ends_before _ rest e = tt
+
+-- what ends before one text ends before another in which a word goes on no more than there
+pub ends_on : (t : Shape) (rest other : List ℕ) → Ends t rest → (EndsWord rest → EndsWord other) → Ends t other
+ends_on (Plain k) rest other e h = h e
+ends_on _ rest other e h = tt
+
+-- a type that was read: its name stood there and ends, it has its parts, and so many brackets nest at most
 pub record Takes (room : ℕ) (bytes : List ℕ) (t : Shape) (rest : List ℕ) : Type 0 where
   pub spelled : bytes ≡ name t ++ rest
   pub parts : HasParts t
   pub nests : nesting t ≤ room
+  pub ends : Ends t rest
 
 abbrev pub IsReader : ℕ → (List ℕ → Read Shape) → Type 0
 IsReader room inner = (bytes : List ℕ) (x : Shape × List ℕ) → inner bytes ≡ Ok x → Takes room bytes x.0 x.1
@@ -74,11 +90,11 @@ record TakesParts (room : ℕ) (bytes : List ℕ) (ts : Shapes) (rest : List ℕ
 last_part : (room : ℕ) (bytes : List ℕ) (t : Shape) (rest : List ℕ) → Takes room bytes t rest → TakesParts room bytes (more t none) rest
 last_part room bytes t rest p = record { spelled = p.spelled ∙ simp append_assoc; parts = (p.parts, tt); nests = omega (arith, p.nests) }
 
-all_from_some : (ts : Shapes) → SomeHaveParts ts → AllHaveParts ts
+pub all_from_some : (ts : Shapes) → SomeHaveParts ts → AllHaveParts ts
 all_from_some none h = tt
 all_from_some (more t ts) h = h
 
-names_then : (ts : Shapes) (rest : List ℕ) → SomeHaveParts ts → 44 ∷ (names ts ++ rest) ≡ names_behind ts ++ rest
+pub names_then : (ts : Shapes) (rest : List ℕ) → SomeHaveParts ts → 44 ∷ (names ts ++ rest) ≡ names_behind ts ++ rest
 names_then none rest h = absurd h
 names_then (more t ts) rest h = simp append_assoc
 
@@ -131,29 +147,29 @@ module _ (room : ℕ) (inner : List ℕ → Read Shape) (reads : IsReader room i
       let t = bind_ok (one inner total bytes) (λ t. Ok (Sequence t.0, t.1)) x e in
       let is : ◌≡◌ {A = Shape × List ℕ} (Sequence t.0.0, t.0.1) x = ok_is {F = TypeFault} (Sequence t.0.0, t.0.1) x t.2 in
       let p = one_takes room inner reads total bytes t.0 t.1 in
-      subst (λ (y : Shape × List ℕ). Takes (suc room) (container_text c.Sequence ++ 60 ∷ bytes) y.0 y.1) is (record { spelled = bracket (container_text c.Sequence) (name t.0.0) t.0.1 bytes p.spelled; parts = p.parts; nests = omega (arith, p.nests) })
+      subst (λ (y : Shape × List ℕ). Takes (suc room) (container_text c.Sequence ++ 60 ∷ bytes) y.0 y.1) is (record { spelled = bracket (container_text c.Sequence) (name t.0.0) t.0.1 bytes p.spelled; parts = p.parts; nests = omega (arith, p.nests); ends = tt })
   inside_takes c.Set bytes x e =
       let t = bind_ok (one inner total bytes) (λ t. Ok (Set t.0, t.1)) x e in
       let is : ◌≡◌ {A = Shape × List ℕ} (Set t.0.0, t.0.1) x = ok_is {F = TypeFault} (Set t.0.0, t.0.1) x t.2 in
       let p = one_takes room inner reads total bytes t.0 t.1 in
-      subst (λ (y : Shape × List ℕ). Takes (suc room) (container_text c.Set ++ 60 ∷ bytes) y.0 y.1) is (record { spelled = bracket (container_text c.Set) (name t.0.0) t.0.1 bytes p.spelled; parts = p.parts; nests = omega (arith, p.nests) })
+      subst (λ (y : Shape × List ℕ). Takes (suc room) (container_text c.Set ++ 60 ∷ bytes) y.0 y.1) is (record { spelled = bracket (container_text c.Set) (name t.0.0) t.0.1 bytes p.spelled; parts = p.parts; nests = omega (arith, p.nests); ends = tt })
   inside_takes c.Mapping bytes x e =
       let t = bind_ok (two inner total bytes) (λ t. Ok (Mapping t.0.0 t.0.1, t.1)) x e in
       let is : ◌≡◌ {A = Shape × List ℕ} (Mapping t.0.0.0 t.0.0.1, t.0.1) x = ok_is {F = TypeFault} (Mapping t.0.0.0 t.0.0.1, t.0.1) x t.2 in
       let p = two_takes room inner reads total bytes t.0 t.1 in
       let both : bytes ≡ (name t.0.0.0 ++ 44 ∷ [] ++ name t.0.0.1) ++ 62 ∷ t.0.1 = p.1.spelled ∙ rw p.2.spelled (simp append_assoc) in
       let whole : container_text c.Mapping ++ 60 ∷ bytes ≡ name (Mapping t.0.0.0 t.0.0.1) ++ t.0.1 = bracket (container_text c.Mapping) (name t.0.0.0 ++ 44 ∷ [] ++ name t.0.0.1) t.0.1 bytes both ∙ simp append_assoc in
-      subst (λ (y : Shape × List ℕ). Takes (suc room) (container_text c.Mapping ++ 60 ∷ bytes) y.0 y.1) is (record { spelled = whole; parts = (p.1.parts, p.2.parts); nests = omega (arith, p.1.nests, p.2.nests) })
+      subst (λ (y : Shape × List ℕ). Takes (suc room) (container_text c.Mapping ++ 60 ∷ bytes) y.0 y.1) is (record { spelled = whole; parts = (p.1.parts, p.2.parts); nests = omega (arith, p.1.nests, p.2.nests); ends = tt })
   inside_takes c.Tuple bytes x e =
       let t = bind_ok (all_parts inner total bytes) (λ t. Ok (Tuple t.0, t.1)) x e in
       let is : ◌≡◌ {A = Shape × List ℕ} (Tuple t.0.0, t.0.1) x = ok_is {F = TypeFault} (Tuple t.0.0, t.0.1) x t.2 in
       let p = all_parts_take room inner reads total bytes t.0 t.1 in
-      subst (λ (y : Shape × List ℕ). Takes (suc room) (container_text c.Tuple ++ 60 ∷ bytes) y.0 y.1) is (record { spelled = bracket (container_text c.Tuple) (names t.0.0) t.0.1 bytes p.spelled; parts = p.parts; nests = omega (arith, p.nests) })
+      subst (λ (y : Shape × List ℕ). Takes (suc room) (container_text c.Tuple ++ 60 ∷ bytes) y.0 y.1) is (record { spelled = bracket (container_text c.Tuple) (names t.0.0) t.0.1 bytes p.spelled; parts = p.parts; nests = omega (arith, p.nests); ends = tt })
   inside_takes c.Variant bytes x e =
       let t = bind_ok (all_parts inner total bytes) (λ t. Ok (Variant t.0, t.1)) x e in
       let is : ◌≡◌ {A = Shape × List ℕ} (Variant t.0.0, t.0.1) x = ok_is {F = TypeFault} (Variant t.0.0, t.0.1) x t.2 in
       let p = all_parts_take room inner reads total bytes t.0 t.1 in
-      subst (λ (y : Shape × List ℕ). Takes (suc room) (container_text c.Variant ++ 60 ∷ bytes) y.0 y.1) is (record { spelled = bracket (container_text c.Variant) (names t.0.0) t.0.1 bytes p.spelled; parts = p.parts; nests = omega (arith, p.nests) })
+      subst (λ (y : Shape × List ℕ). Takes (suc room) (container_text c.Variant ++ 60 ∷ bytes) y.0 y.1) is (record { spelled = bracket (container_text c.Variant) (names t.0.0) t.0.1 bytes p.spelled; parts = p.parts; nests = omega (arith, p.nests); ends = tt })
 
   opened_takes : IsContainerReader (suc room) (opened inner total)
   unfolding opened
@@ -171,7 +187,7 @@ by_name_takes : (room : ℕ) (brackets : Container → List ℕ → Read Shape) 
 by_name_takes room brackets reads total bytes (Some s) k s_is k_is x e =
     let is : ◌≡◌ {A = Shape × List ℕ} (Plain s, after_word bytes) x = ok_is {F = TypeFault} (Plain s, after_word bytes) x e in
     let spelled : bytes ≡ scalar_text s ++ after_word bytes = word_parts bytes ∙ ap (λ (w : List ℕ). w ++ after_word bytes) (sym (scalar_is (word bytes) s s_is)) in
-    subst (λ (y : Shape × List ℕ). Takes room bytes y.0 y.1) is (record { spelled = spelled; parts = tt; nests = omega arith })
+    subst (λ (y : Shape × List ℕ). Takes room bytes y.0 y.1) is (record { spelled = spelled; parts = tt; nests = omega arith; ends = after_ends bytes })
 by_name_takes room brackets reads total bytes None (Some k) s_is k_is x e =
     let spelled : container_text k ++ after_word bytes ≡ bytes = ap (λ (w : List ℕ). w ++ after_word bytes) (container_is (word bytes) k k_is) ∙ sym (word_parts bytes) in
     subst (λ (bs : List ℕ). Takes room bs x.0 x.1) spelled (reads k (after_word bytes) x e)

@@ -1,5 +1,5 @@
 -- The words of names: which one a word is, and that no other word names the same.
-use Rattle.std.proofs.Common.{◌≡◌, ℕ, Bool, true, eqb, List, [], ◌∷◌, ◌++◌, length, Some, None, refl, sym, subst, ◌∙◌, inl, inr, arith, rules}
+use Rattle.std.proofs.Common.{◌≡◌, ℕ, suc, ◌+◌, ◌⊎◌, Bool, true, false, eqb, List, [], ◌∷◌, ◌++◌, length, Some, None, refl, sym, subst, ◌∙◌, inl, inr, arith, rules}
 use Rattle.std.specs.List.{find, prefix_len}
 use Rattle.std.specs.Str.{bytes_eq}
 use Rattle.std.proofs.lemmas.List.{take-append-drop, take_at, drop_at}
@@ -98,6 +98,20 @@ word_parts bytes = sym (take-append-drop (prefix_len is_word_byte bytes) bytes)
 -- no word goes on here
 abbrev pub EndsWord : List ℕ → Type 0
 EndsWord rest = prefix_len is_word_byte rest ≡ 0
+
+either : (x : Bool) → (x ≡ true) ⊎ (x ≡ false)
+either true = inl refl
+either false = inr refl
+
+pub after_ends : (bytes : List ℕ) → EndsWord (after_word bytes)
+after_ends [] = refl
+after_ends (b ∷ bytes) =
+    elim (either (is_word_byte b)) [
+      | inl h ↦
+          let one : 1 + prefix_len is_word_byte bytes ≡ suc (prefix_len is_word_byte bytes) = omega arith in
+          rw (h, one) (after_ends bytes)
+      | inr h ↦ rw (h, h) refl
+    ]
 
 eqb-refl : (n : ℕ) → eqb n n ≡ true
 eqb-refl n = search rules

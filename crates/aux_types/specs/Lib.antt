@@ -1,3 +1,4 @@
+pub mod Faults
 pub mod Gives
 pub mod Kind
 pub mod Names

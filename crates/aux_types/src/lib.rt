@@ -4,6 +4,7 @@
 mod aux_type;
 mod fault;
 mod kind;
+pub mod laws;
 mod name;
 mod reading;
 mod writing;
@@ -14,6 +15,3 @@ pub use kind::Kind;
 pub use name::Scalar;
 pub use reading::parse_type;
 pub use writing::print_type;
-
-#[cfg(test)]
-mod tests;

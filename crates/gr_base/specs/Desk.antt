@@ -1,7 +1,7 @@
 -- What the calls of a desk do to its files and to its counts.
-use Rattle.std.specs.Prelude.{◌≡◌, ◌⊎◌, ◌≢◌, ◌≤◌, ◌↔◌, ℕ, ◌+◌, ◌-◌, ◌^◌, min, List, ◌++◌, length, take, drop, Option, Some, None, IsSome, Result, Err}
+use Rattle.std.specs.Prelude.{◌≡◌, ◌⊎◌, ◌≢◌, ◌≤◌, ◌↔◌, ℕ, ◌+◌, ◌-◌, ◌^◌, min, List, ◌++◌, length, take, drop, Option, Some, None, IsSome, Result, Ok, Err}
 use Rattle.gr_base.specs.declared.desk.DeskFault.{DeskFault}
-use Rattle.gr_base.specs.declared.desk.DeskFault.TheVariants.{Failed}
+use Rattle.gr_base.specs.declared.desk.DeskFault.TheVariants.{Failed, Memory}
 
 -- what each name holds, if anything
 abbrev pub Files : Type 0
@@ -65,6 +65,12 @@ pub record Fetches (name : List ℕ) (at : ℕ) (buffer : List ℕ) (count : ℕ
 pub record HasCause {T : Type 0} (before now : ℕ) (result : Result T DeskFault) : Type 0 where
   pub later : before ≤ now
   pub failed : result ≡ Err Failed → Rose before now
+
+-- a count of faults after a call: one more exactly where the call was refused
+abbrev pub after_call : {T : Type 0} → ℕ → Result T DeskFault → ℕ
+after_call before (Ok x) = before
+after_call before (Err Failed) = counted before 1
+after_call before (Err Memory) = before
 
 -- a file of the made name is held
 abbrev pub MadeIsHeld : Option Files → Option (List ℕ) → Type 0

@@ -69,6 +69,7 @@ pub trait Desk {
         ensures steady { steady self.new ≡ steady self.old }
         ensures read_cause { HasCause (read_faults self.old) (read_faults self.new) result }
         ensures write_later { write_faults self.old ≤ write_faults self.new }
+        ensures uncounted { result ≡ Err Memory → (read_faults self.new ≡ read_faults self.old) × (write_faults self.new ≡ write_faults self.old) }
         ensures sure { IsTrue (steady self.old) → Told (files self.old) (λ held. IsSome (held name.now) → result ≢ Err Failed) };
 
     /// Makes the file empty, whether it was there or not, and the one that may be appended to.
@@ -82,6 +83,7 @@ pub trait Desk {
         ensures steady { steady self.new ≡ steady self.old }
         ensures read_later { read_faults self.old ≤ read_faults self.new }
         ensures write_cause { HasCause (write_faults self.old) (write_faults self.new) result }
+        ensures uncounted { result ≡ Err Memory → (read_faults self.new ≡ read_faults self.old) × (write_faults self.new ≡ write_faults self.old) }
         ensures sure { IsTrue (steady self.old) → result ≢ Err Failed };
 
     /// Adds bytes at the end of the file that was made, from the front of the piece, and answers how many.
@@ -98,6 +100,7 @@ pub trait Desk {
         ensures steady { steady self.new ≡ steady self.old }
         ensures read_later { read_faults self.old ≤ read_faults self.new }
         ensures write_cause { HasCause (write_faults self.old) (write_faults self.new) result }
+        ensures uncounted { result ≡ Err Memory → (read_faults self.new ≡ read_faults self.old) × (write_faults self.new ≡ write_faults self.old) }
         ensures sure { IsTrue (steady self.old) → result ≢ Err Failed };
 
     /// A file of the name that may be appended to is held.

@@ -44,11 +44,11 @@ impl HonestDesk {
 }
 
 impl Desk for HonestDesk {
-    ghost use Rattle.std.specs.Prelude.{◌≡◌, ◌≤◌, ◌<◌, Some, Err, true, length, IfOk, OnErr};
+    ghost use Rattle.std.specs.Prelude.{◌≡◌, ◌≤◌, ◌<◌, [], Some, Err, true, length, IfOk, OnOk, OnErr};
     ghost use Rattle.std.specs.Result.{result_unwrap_or};
     ghost use Rattle.std.proofs.Common.{refl, arith};
     ghost use Rattle.gr_base.specs.declared.desk.DeskFault.TheVariants.{Memory};
-    ghost use Rattle.gr_base.specs.Desk.{counted, SameFiles, LeavesPrefix, Adds, Fetches, HasCause};
+    ghost use Rattle.gr_base.specs.Desk.{counted, SameFiles, Leaves, LeavesPrefix, Adds, Fetches, HasCause, after_call};
     ghost use Rattle.gr_base.specs.Held.{read_of};
     ghost use Rattle.gr_base.specs.HonestDesk.{honest_files, honest_made, honest_read_faults, honest_write_faults, honest_taken};
 
@@ -78,7 +78,8 @@ impl Desk for HonestDesk {
         ensures taken { honest_taken self.new ≡ counted (honest_taken self.old) (result_unwrap_or result 0) }
         ensures made { honest_made self.new ≡ honest_made self.old }
         ensures read_cause { HasCause (honest_read_faults self.old) (honest_read_faults self.new) result }
-        ensures write_later { honest_write_faults self.old ≤ honest_write_faults self.new }
+        ensures read_faults { honest_read_faults self.new ≡ after_call (honest_read_faults self.old) result }
+        ensures write_faults { honest_write_faults self.new ≡ honest_write_faults self.old }
     {
         match self.store.fetch(name, at, buf.len(), buf) {
             Some(count) => {
@@ -92,7 +93,16 @@ impl Desk for HonestDesk {
         }
     }
 
-    fn create(&mut self, name: &str) -> Result<(), DeskFault> {
+    fn create(&mut self, name: &str) -> Result<(), DeskFault>
+        ensures empty { OnOk result (Leaves name.now [] (honest_files self.old) (honest_files self.new)) }
+        ensures made { OnOk result (honest_made self.new ≡ Some name.now) }
+        ensures err { OnErr result (SameFiles (honest_files self.old) (honest_files self.new)) }
+        ensures same_made { OnErr result (honest_made self.new ≡ honest_made self.old) }
+        ensures memory { OnErr result (result ≡ Err Memory) }
+        ensures taken { honest_taken self.new ≡ honest_taken self.old }
+        ensures read_faults { honest_read_faults self.new ≡ honest_read_faults self.old }
+        ensures write_faults { honest_write_faults self.new ≡ honest_write_faults self.old }
+    {
         self.store.create(name)?;
         Ok(())
     }
@@ -107,8 +117,8 @@ impl Desk for HonestDesk {
         ensures prefix { OnErr result (LeavesPrefix name.now piece.now (honest_files self.old) (honest_files self.new)) }
         ensures made { honest_made self.new ≡ honest_made self.old }
         ensures taken { honest_taken self.new ≡ honest_taken self.old }
-        ensures read_later { honest_read_faults self.old ≤ honest_read_faults self.new }
-        ensures write_cause { HasCause (honest_write_faults self.old) (honest_write_faults self.new) result }
+        ensures read_faults { honest_read_faults self.new ≡ honest_read_faults self.old }
+        ensures write_faults { honest_write_faults self.new ≡ honest_write_faults self.old }
     {
         self.store.append(name, piece)?;
         Ok(piece.len())

@@ -25,6 +25,3 @@ pub use real_desk::RealDesk;
 pub use seq::Seq;
 pub use text::Text;
 pub use whole::{MOST, ReadEnd, WriteFault, read_whole, write_whole};
-
-#[cfg(test)]
-mod tests;

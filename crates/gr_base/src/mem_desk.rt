@@ -73,7 +73,7 @@ impl Desk for MemDesk {
     ghost use Rattle.std.specs.Result.{result_unwrap_or};
     ghost use Rattle.std.proofs.Common.{arith};
     ghost use Rattle.gr_base.specs.declared.desk.DeskFault.TheVariants.{Failed};
-    ghost use Rattle.gr_base.specs.Desk.{counted, SameFiles, Leaves, LeavesPrefix, Adds, Fetches, HasCause};
+    ghost use Rattle.gr_base.specs.Desk.{counted, SameFiles, Leaves, LeavesPrefix, Adds, Fetches, HasCause, after_call};
     ghost use Rattle.gr_base.specs.MemDesk.{mem_files, mem_made, mem_read_faults, mem_write_faults, mem_taken, mem_grain, fetched, refuses_next, CountsCall};
 
     ghost files = { λ desk. Some (mem_files desk) };
@@ -103,7 +103,8 @@ impl Desk for MemDesk {
         ensures taken { mem_taken self.new ≡ counted (mem_taken self.old) (result_unwrap_or result 0) }
         ensures made { mem_made self.new ≡ mem_made self.old }
         ensures read_cause { HasCause (mem_read_faults self.old) (mem_read_faults self.new) result }
-        ensures write_later { mem_write_faults self.old ≤ mem_write_faults self.new }
+        ensures read_faults { mem_read_faults self.new ≡ after_call (mem_read_faults self.old) result }
+        ensures write_faults { mem_write_faults self.new ≡ mem_write_faults self.old }
     {
         if self.is_refused() {
             self.counts.refuse_read();
@@ -129,8 +130,9 @@ impl Desk for MemDesk {
         ensures err { OnErr result (SameFiles (mem_files self.old) (mem_files self.new)) }
         ensures same_made { OnErr result (mem_made self.new ≡ mem_made self.old) }
         ensures taken { mem_taken self.new ≡ mem_taken self.old }
-        ensures read_later { mem_read_faults self.old ≤ mem_read_faults self.new }
         ensures write_cause { HasCause (mem_write_faults self.old) (mem_write_faults self.new) result }
+        ensures read_faults { mem_read_faults self.new ≡ mem_read_faults self.old }
+        ensures write_faults { mem_write_faults self.new ≡ after_call (mem_write_faults self.old) result }
     {
         if self.is_refused() {
             self.counts.refuse_write();
@@ -152,8 +154,9 @@ impl Desk for MemDesk {
         ensures prefix { OnErr result (LeavesPrefix name.now piece.now (mem_files self.old) (mem_files self.new)) }
         ensures made { mem_made self.new ≡ mem_made self.old }
         ensures taken { mem_taken self.new ≡ mem_taken self.old }
-        ensures read_later { mem_read_faults self.old ≤ mem_read_faults self.new }
         ensures write_cause { HasCause (mem_write_faults self.old) (mem_write_faults self.new) result }
+        ensures read_faults { mem_read_faults self.new ≡ mem_read_faults self.old }
+        ensures write_faults { mem_write_faults self.new ≡ after_call (mem_write_faults self.old) result }
     {
         if self.is_refused() {
             self.counts.refuse_write();

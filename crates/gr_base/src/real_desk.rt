@@ -126,9 +126,11 @@ fn read_standard<T: Read>(
 }
 
 impl<R: Files + Input + Print + Drop> Desk for RealDesk<R> {
-    ghost use Rattle.std.specs.Prelude.{None, false};
+    ghost use Rattle.std.specs.Prelude.{◌≡◌, ◌≤◌, ◌<◌, None, Some, Err, false, length, IfOk, OnOk, OnErr};
+    ghost use Rattle.std.specs.Result.{result_unwrap_or};
     ghost use Rattle.std.proofs.Common.{arith};
-    ghost use Rattle.gr_base.specs.Desk.{counted};
+    ghost use Rattle.gr_base.specs.declared.desk.DeskFault.TheVariants.{Failed};
+    ghost use Rattle.gr_base.specs.Desk.{counted, after_call, HasCause};
     ghost use Rattle.gr_base.specs.Held.{name_of};
 
     ghost files = { λ _. None };
@@ -149,7 +151,14 @@ impl<R: Files + Input + Print + Drop> Desk for RealDesk<R> {
 
     ghost taken_fits = { λ desk. Prim.omega arith };
 
-    fn fetch(&mut self, name: &str, at: u64, buf: &mut [u8]) -> Result<usize, DeskFault> {
+    fn fetch(&mut self, name: &str, at: u64, buf: &mut [u8]) -> Result<usize, DeskFault>
+        ensures bound { IfOk result (λ n. n ≤ length buf.old) }
+        ensures read_faults { self.new.counts.read_faults ≡ after_call self.old.counts.read_faults result }
+        ensures write_faults { self.new.counts.write_faults ≡ self.old.counts.write_faults }
+        ensures taken { counted self.new.counts.taken 0 ≡ counted (counted self.old.counts.taken 0) (result_unwrap_or result 0) }
+        ensures made { name_of self.new.made ≡ name_of self.old.made }
+        ensures read_cause { HasCause self.old.counts.read_faults self.new.counts.read_faults result }
+    {
         let read = if name == STANDARD {
             read_standard(&mut self.standard, at, buf)
         } else {
@@ -163,7 +172,14 @@ impl<R: Files + Input + Print + Drop> Desk for RealDesk<R> {
         read
     }
 
-    fn create(&mut self, name: &str) -> Result<(), DeskFault> {
+    fn create(&mut self, name: &str) -> Result<(), DeskFault>
+        ensures made { OnOk result (name_of self.new.made ≡ Some name.now) }
+        ensures same_made { OnErr result (name_of self.new.made ≡ name_of self.old.made) }
+        ensures read_faults { self.new.counts.read_faults ≡ self.old.counts.read_faults }
+        ensures write_faults { self.new.counts.write_faults ≡ after_call self.old.counts.write_faults result }
+        ensures taken { self.new.counts.taken ≡ self.old.counts.taken }
+        ensures write_cause { HasCause self.old.counts.write_faults self.new.counts.write_faults result }
+    {
         let made = String::from_str(self.alloc, name)?;
         if name == STANDARD {
             self.output = None;
@@ -180,7 +196,16 @@ impl<R: Files + Input + Print + Drop> Desk for RealDesk<R> {
         Ok(())
     }
 
-    fn append(&mut self, _name: &str, piece: &[u8]) -> Result<usize, DeskFault> {
+    fn append(&mut self, _name: &str, piece: &[u8]) -> Result<usize, DeskFault>
+        ensures some { IfOk result (λ n. 0 < n) }
+        ensures bound { IfOk result (λ n. n ≤ length piece.now) }
+        ensures failed { OnErr result (result ≡ Err Failed) }
+        ensures made { name_of self.new.made ≡ name_of self.old.made }
+        ensures read_faults { self.new.counts.read_faults ≡ self.old.counts.read_faults }
+        ensures write_faults { self.new.counts.write_faults ≡ after_call self.old.counts.write_faults result }
+        ensures taken { self.new.counts.taken ≡ self.old.counts.taken }
+        ensures write_cause { HasCause self.old.counts.write_faults self.new.counts.write_faults result }
+    {
         let written = match &mut self.output {
             Some(file) => file.write(piece),
             None => self.rt.write_some(piece),

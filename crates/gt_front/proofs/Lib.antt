@@ -1,8 +1,9 @@
-pub mod FirstBad
-pub mod Ends
-pub mod Refusals
-pub mod RecodeLaws
-pub mod Complete
-pub mod Served
-pub mod RunLaws
 pub mod Numbers
+pub mod Chains
+pub mod Outcomes
+pub mod Telling
+pub mod Reading
+pub mod FirstBad
+pub mod Endings
+pub mod Serving
+pub mod Usages

@@ -3,7 +3,7 @@ use Rattle.std.proofs.Common.{◌≡◌, ℕ, ◌+◌, ◌-◌, ◌*◌, ◌≤�
 use Rattle.std.specs.Prelude.{fold, Bool, true, ◌&&◌}
 use Rattle.std.specs.List.{list_all}
 use Rattle.std.proofs.lemmas.Bool.Decides.{nat_tests}
-use Rattle.gt_front.specs.Words.{is_digit}
+use Rattle.gt_front.specs.Numbers.{is_digit}
 
 -- one digit more
 abbrev pub with_digit : ℕ → ℕ → ℕ

@@ -1,14 +1,14 @@
 -- When each answer of a job comes, and what it leaves in the files.
-use Rattle.std.specs.Prelude.{◌≡◌, ◌≢◌, ◌⊎◌, ℕ, ◌+◌, ◌^◌, Bool, IsTrue, List, Option, None}
+use Rattle.std.specs.Prelude.{◌≡◌, ◌≢◌, ◌⊎◌, ℕ, ◌+◌, ◌^◌, Bool, IsTrue, List, Option, Some, None, IsSome, Ok, Err}
 use Rattle.gr_base.specs.Desk.{Files, Told, SameFiles, Leaves, LeavesPart, Rose, Took}
 use Rattle.gt_front.specs.declared.answer.Role.{Role}
 use Rattle.gt_front.specs.declared.answer.Answer.{Answer}
-use Rattle.gt_front.specs.declared.answer.Answer.TheVariants.{Done, Usage, ReadFault, WriteFault, Memory, TooLarge, Format, Image}
+use Rattle.gt_front.specs.declared.answer.Answer.TheVariants.{Done, ReadFault, WriteFault, Memory, TooLarge}
+use Rattle.gt_front.specs.declared.verdict.Finished.{Finished}
+use Rattle.gt_front.specs.declared.verdict.Refusal.{Refusal}
+use Rattle.gt_front.specs.Answer.{answer_of}
 use Rattle.gt_front.specs.Inputs.{InputFile, Names, Reaches, IsTooLarge, AllReadable}
-
--- a job's own answer over the files, with the bytes that it writes
-abbrev pub Outcomes : Type 1
-Outcomes = Files → Answer → List ℕ → Type 0
+use Rattle.gt_front.specs.Outcome.{Outcomes, Verdict}
 
 -- a refused read: the count of faults rose, and every input before the one of this role could be read;
 -- on a steady desk exactly where that input isn't held
@@ -31,55 +31,63 @@ pub record TooLargeCause (inputs : List InputFile) (files : Option Files) (stead
   pub always : IsTrue steady → Told files (λ held. (role : Role) (name : List ℕ) →
       Reaches inputs role name held → IsTooLarge held name → (result ≡ TooLarge role) ⊎ (result ≡ Memory))
 
--- a refused write: the count of faults rose, and the job's own answer is that it is done; never on a
+-- a refused write: the words name an output, the count of faults rose, and the job was done; never on a
 -- steady desk
-pub record WriteFaultCause (own : Outcomes) (files : Option Files) (steady : Bool) (before now : ℕ) (result : Answer) : Type 0 where
+pub record WriteFaultCause (own : Outcomes) (out : Option (List ℕ)) (files : Option Files) (steady : Bool) (before now : ℕ) (result : Answer) : Type 0 where
   pub rose : result ≡ WriteFault → Rose before now
-  pub done : result ≡ WriteFault → Told files (λ held. (text : List ℕ) × (out : List ℕ) × own held (Done text) out)
+  pub named : result ≡ WriteFault → IsSome out
+  pub done : result ≡ WriteFault → Told files (λ held. (finished : Finished) × own held (Ok finished))
   pub never : IsTrue steady → result ≢ WriteFault
 
--- the answer is the job's own, or one that a desk or want of memory puts in its place
-abbrev pub Settles : Answer → Answer → Type 0
-Settles own Memory = Unit {0}
-Settles own (ReadFault role) = Unit {0}
-Settles own (TooLarge role) = Unit {0}
-Settles own WriteFault = (text : List ℕ) × (own ≡ Done text)
-Settles own (Done text) = own ≡ Done text
-Settles own (Usage index) = own ≡ Usage index
-Settles own (Format fault) = own ≡ Format fault
-Settles own (Image fault) = own ≡ Image fault
+-- an input wasn't read, or memory ran out
+abbrev pub IsStopped : Answer → Type 0
+IsStopped result = ((role : Role) × (result ≡ ReadFault role)) ⊎ ((role : Role) × (result ≡ TooLarge role)) ⊎ (result ≡ Memory)
 
--- an answer that tells what the files hold is the job's own
-abbrev pub TellsTruth : (Answer → Type 0) → Answer → Type 0
-TellsTruth own Memory = Unit {0}
-TellsTruth own (ReadFault role) = Unit {0}
-TellsTruth own (TooLarge role) = Unit {0}
-TellsTruth own WriteFault = Unit {0}
-TellsTruth own (Usage index) = Unit {0}
-TellsTruth own (Done text) = own (Done text)
-TellsTruth own (Format fault) = own (Format fault)
-TellsTruth own (Image fault) = own (Image fault)
+-- the answer of a verdict
+abbrev pub verdict_answer : Verdict → Answer
+verdict_answer (Ok finished) = Done finished.text
+verdict_answer (Err refusal) = answer_of refusal
+
+-- the answer is that of the verdict, or one that a desk or want of memory puts in its place
+abbrev pub Settles : Verdict → Answer → Type 0
+Settles (Ok finished) result = (result ≡ Done finished.text) ⊎ (result ≡ WriteFault) ⊎ IsStopped result
+Settles (Err refusal) result = (result ≡ answer_of refusal) ⊎ IsStopped result
 
 -- the job's own answer comes, and no other but one that a desk or want of memory puts in its place
 pub record IsOwn (own : Outcomes) (files : Option Files) (result : Answer) : Type 0 where
-  pub truth : Told files (λ held. TellsTruth (λ answer. (out : List ℕ) × own held answer out) result)
-  pub settles : Told files (λ held. (answer : Answer) (out : List ℕ) → own held answer out → Settles answer result)
+  pub done : (text : List ℕ) → result ≡ Done text →
+      Told files (λ held. (out : Option (List ℕ)) × own held (Ok (record { text = text; out = out })))
+  pub refused : (refusal : Refusal) → result ≡ answer_of refusal → Told files (λ held. own held (Err refusal))
+  pub settles : Told files (λ held. (verdict : Verdict) → own held verdict → Settles verdict result)
 
 -- where every input can be read and no count of faults rose, or the desk is steady, the job's own answer comes
 abbrev pub IsComplete : List InputFile → Outcomes → Option Files → Bool → Type 0 → Answer → Type 0
 IsComplete inputs own files steady rose result =
     (IsTrue steady ⊎ (rose → ⊥)) → Told files (λ held. AllReadable inputs held →
-    (answer : Answer) (out : List ℕ) → own held answer out → (result ≡ answer) ⊎ (result ≡ Memory))
+    (verdict : Verdict) → own held verdict → (result ≡ verdict_answer verdict) ⊎ (result ≡ Memory))
 
--- the files after a job that writes to this name: as before, but where it is done, or was writing when
--- the desk refused or memory ran out
-abbrev pub Kept : Outcomes → List ℕ → Answer → Files → Files → Type 0
-Kept own name (Done text) old new = (out : List ℕ) × own old (Done text) out × Leaves name out old new
-Kept own name WriteFault old new = (text : List ℕ) × (out : List ℕ) × own old (Done text) out × LeavesPart name out old new
-Kept own name Memory old new =
-    SameFiles old new ⊎ ((text : List ℕ) × (out : List ℕ) × own old (Done text) out × LeavesPart name out old new)
-Kept own name (Usage index) old new = SameFiles old new
-Kept own name (ReadFault role) old new = SameFiles old new
-Kept own name (TooLarge role) old new = SameFiles old new
-Kept own name (Format fault) old new = SameFiles old new
-Kept own name (Image fault) old new = SameFiles old new
+-- the output holds what was to be written, and no other file differs; where there is no output or nothing
+-- to be written, no file does
+abbrev pub Wrote : Option (List ℕ) → Option (List ℕ) → Files → Files → Type 0
+Wrote (Some name) (Some out) old new = Leaves name out old new
+Wrote (Some name) None old new = SameFiles old new
+Wrote None out old new = SameFiles old new
+
+-- the output is as before or holds a prefix of what was to be written, and no other file differs
+abbrev pub WrotePart : Option (List ℕ) → Option (List ℕ) → Files → Files → Type 0
+WrotePart (Some name) (Some out) old new = LeavesPart name out old new
+WrotePart (Some name) None old new = SameFiles old new
+WrotePart None out old new = SameFiles old new
+
+-- the files after a job: its output where it is done, a part of it where it was writing when the desk
+-- refused or memory ran out, and else as before
+pub record Kept (own : Outcomes) (name : Option (List ℕ)) (result : Answer) (old new : Files) : Type 0 where
+  pub done : (text : List ℕ) → result ≡ Done text →
+      (out : Option (List ℕ)) × own old (Ok (record { text = text; out = out })) × Wrote name out old new
+  pub other : ((text : List ℕ) → result ≢ Done text) → SameFiles old new
+      ⊎ (((result ≡ WriteFault) ⊎ (result ≡ Memory)) × (finished : Finished) × own old (Ok finished) × WrotePart name finished.out old new)
+
+-- a job without an output answers no write fault, and no file differs
+pub record WritesNothing (result : Answer) (old new : Files) : Type 0 where
+  pub same : SameFiles old new
+  pub quiet : result ≢ WriteFault

@@ -1,33 +1,45 @@
 -- The files that the words name, and which of them can be read whole.
-use Rattle.std.specs.Prelude.{◌≡◌, ◌<◌, ◌≤◌, ℕ, ◌^◌, List, [], ◌∷◌, ◌++◌, length, drop, Option, Some, None}
-use Rattle.std.specs.List.{AllByRecursion}
+use Rattle.std.specs.Prelude.{◌≡◌, ◌<◌, ◌≤◌, ℕ, ◌^◌, List, [], ◌∷◌, ◌++◌, length, Option, Some, None, unwrap_or, IsSome}
+use Rattle.std.specs.List.{AllByRecursion, flat_map}
+use Rattle.std.specs.Option.{option_and_then}
 use Rattle.gr_base.specs.Desk.{Files}
 use Rattle.gt_front.specs.declared.answer.Role.{Role}
-use Rattle.gt_front.specs.declared.answer.Role.TheVariants.{In, Input}
-use Rattle.gt_front.specs.declared.words.WordName.TheVariants as names
-use Rattle.gt_front.specs.declared.words.Job.{Job}
-use Rattle.gt_front.specs.declared.words.Job.TheVariants.{Recode, Run}
-use Rattle.gt_front.specs.Asks.{job_of}
-use Rattle.gt_front.specs.Words.{value_of}
+use Rattle.gt_front.specs.declared.answer.TheConstants.{ROLES}
+use Rattle.gt_front.specs.Picked.{Picked}
 
 -- an input file: what it is to the job, and its name
 abbrev pub InputFile : Type 0
 InputFile = Role × List ℕ
 
--- the file that a word gives, if it does, as an input of a role
+-- the file of a name, if there is one, as an input of a role
 abbrev pub input_as : Role → Option (List ℕ) → List InputFile
 input_as role None = []
 input_as role (Some name) = (role, name) ∷ []
 
--- the files that a job reads, in their order
-abbrev pub inputs_for : Option Job → List (List ℕ) → List InputFile
-inputs_for None words = []
-inputs_for (Some Recode) words = input_as In (value_of names.In (drop 1 words))
-inputs_for (Some Run) words = input_as In (value_of names.In (drop 1 words)) ++ input_as Input (value_of names.Input (drop 1 words))
+-- the files that are asked for in these roles
+abbrev pub files_as : Picked → List Role → List InputFile
+files_as asked roles = flat_map (λ role. input_as role (asked.file role)) roles
 
--- the files that the job of the words reads, in their order
-abbrev pub inputs_of : List (List ℕ) → List InputFile
-inputs_of words = inputs_for (job_of words) words
+-- the files that a job reads, in their order
+abbrev pub inputs_of : Option Picked → List InputFile
+inputs_of None = []
+inputs_of (Some asked) = files_as asked ROLES
+
+-- what the input file of each role holds, if the words name one
+abbrev pub Contents : Type 0
+Contents = Role → Option (List ℕ)
+
+-- what the input files hold
+abbrev pub contents_of : Picked → Files → Contents
+contents_of asked files role = option_and_then files (asked.file role)
+
+-- the bytes of the input of a role; one that no word names is empty
+abbrev pub bytes_in : Contents → Role → List ℕ
+bytes_in contents role = unwrap_or (contents role) []
+
+-- each input is held
+abbrev pub AllHeld : List InputFile → Files → Type 0
+AllHeld inputs files = AllByRecursion (λ input. IsSome (files input.1)) inputs
 
 -- a file is held, with at most 2 ^ 26 bytes
 abbrev pub IsReadable : Files → List ℕ → Type 0

@@ -1,10 +1,51 @@
--- What a job learns from one read and one write of a file.
-use Rattle.std.specs.Prelude.{◌≡◌, ℕ, ◌+◌, ◌^◌, Bool, IsTrue, List, Option, None}
-use Rattle.gr_base.specs.Desk.{Files, Told, ToldBoth, Leaves, LeavesPart, Rose, Took}
+-- What a job learns from the reads of its inputs and from its write; the proofs alone need it.
+use Rattle.std.specs.Prelude.{◌≡◌, ℕ, ◌+◌, ◌^◌, Bool, true, false, cond, IsTrue, List, ◌∷◌, ◌++◌, Option, Some, None, IsSome, Result, Ok, Err}
+use Rattle.std.specs.List.{list_any}
+use Rattle.gr_base.specs.Desk.{Files, Told, ToldBoth, Rose, Took}
+use Rattle.gr_base.specs.declared.end.End.{End}
+use Rattle.gr_base.specs.declared.end.End.TheVariants as ends
+use Rattle.gr_base.specs.declared.whole.ReadEnd.{ReadEnd}
+use Rattle.gr_base.specs.declared.whole.ReadEnd.TheVariants as reads
+use Rattle.gr_base.specs.declared.whole.WriteFault.{WriteFault}
 use Rattle.gt_front.specs.declared.answer.Role.{Role}
-use Rattle.gt_front.specs.declared.answer.Answer.{Answer}
-use Rattle.gt_front.specs.declared.answer.Answer.TheVariants.{Done, Usage, ReadFault, WriteFault, Memory, TooLarge, Format, Image}
-use Rattle.gt_front.specs.Inputs.{IsTooLarge}
+use Rattle.gt_front.specs.declared.answer.Role.TheVariants.{In, Patch, Layout, Input}
+use Rattle.gt_front.specs.declared.inputs.Contents as declared
+use Rattle.gt_front.specs.declared.inputs.Unread.{Unread}
+use Rattle.gt_front.specs.declared.verdict.Finished.{Finished}
+use Rattle.gt_front.specs.Causes.{Wrote, WrotePart}
+use Rattle.gt_front.specs.Inputs.{InputFile, Contents, contents_of, AllReadable, IsTooLarge}
+use Rattle.gt_front.specs.Picked.{Picked}
+
+-- the contents that the program's own value has
+abbrev pub contents_view : declared.Contents → Contents
+contents_view c In = c.main
+contents_view c Patch = c.patch
+contents_view c Layout = c.layout
+contents_view c Input = c.input
+
+-- are two roles one
+abbrev pub same_role : Role → Role → Bool
+same_role In In = true
+same_role Patch Patch = true
+same_role Layout Layout = true
+same_role Input Input = true
+same_role _ _ = false
+
+-- is a role among these
+abbrev pub among : List Role → Role → Bool
+among roles role = list_any (λ r. same_role r role) roles
+
+-- of these roles there is what the files hold, and of others nothing
+abbrev pub HoldsAmong : Picked → List Role → declared.Contents → Files → Type 0
+HoldsAmong asked roles c held = (role : Role) → contents_view c role ≡ cond (among roles role) (contents_of asked held role) None
+
+-- there is what the files hold
+abbrev pub HoldsAll : Picked → declared.Contents → Files → Type 0
+HoldsAll asked c held = (role : Role) → contents_view c role ≡ contents_of asked held role
+
+-- the contents of one role more
+abbrev pub Puts : Role → Option (List ℕ) → declared.Contents → declared.Contents → Type 0
+Puts role found old new = (other : Role) → contents_view new other ≡ cond (same_role role other) found (contents_view old other)
 
 -- the counts of a desk around a call
 pub record Counts : Type 0 where
@@ -13,27 +54,33 @@ pub record Counts : Type 0 where
   pub taken_before : ℕ
   pub taken_now : ℕ
 
--- why an input wasn't read
-abbrev pub Refuses : Role → List ℕ → Option Files → Bool → Counts → Answer → Type 0
-Refuses role name files steady counts Memory = Unit {0}
-Refuses role name files steady counts (ReadFault given) =
-    (given ≡ role) × Rose counts.read_before counts.read_now × (IsTrue steady → Told files (λ held. held name ≡ None))
-Refuses role name files steady counts (TooLarge given) =
-    (given ≡ role) × Took (2 ^ 26 + 1) counts.taken_before counts.taken_now × Told files (λ held. IsTooLarge held name)
-Refuses role name files steady counts (Done text) = ⊥
-Refuses role name files steady counts (Usage index) = ⊥
-Refuses role name files steady counts WriteFault = ⊥
-Refuses role name files steady counts (Format fault) = ⊥
-Refuses role name files steady counts (Image fault) = ⊥
+-- why a file wasn't read
+abbrev pub Refuses : List ℕ → Option Files → Bool → Counts → End ReadEnd → Type 0
+Refuses name files steady counts (ends.Fault reads.Fault) =
+    Rose counts.read_before counts.read_now × (IsTrue steady → Told files (λ held. held name ≡ None))
+Refuses name files steady counts (ends.Fault reads.TooLarge) =
+    Took (2 ^ 26 + 1) counts.taken_before counts.taken_now × Told files (λ held. IsTooLarge held name)
+Refuses name files steady counts ends.Memory = Unit {0}
 
--- how a finished job's write ends
-abbrev pub Writes : List ℕ → List ℕ → List ℕ → Bool → ℕ → ℕ → Option Files → Option Files → Answer → Type 0
-Writes name text out steady before now old new (Done given) = (given ≡ text) × ToldBoth old new (Leaves name out)
-Writes name text out steady before now old new WriteFault =
-    Rose before now × (IsTrue steady → ⊥) × ToldBoth old new (LeavesPart name out)
-Writes name text out steady before now old new Memory = ToldBoth old new (LeavesPart name out)
-Writes name text out steady before now old new (Usage index) = ⊥
-Writes name text out steady before now old new (ReadFault role) = ⊥
-Writes name text out steady before now old new (TooLarge role) = ⊥
-Writes name text out steady before now old new (Format fault) = ⊥
-Writes name text out steady before now old new (Image fault) = ⊥
+-- the input of a role wasn't read
+pub record IsUnreadAs (asked : Picked) (role : Role) (files : Option Files) (steady : Bool) (counts : Counts) (unread : Unread) : Type 0 where
+  pub name : List ℕ
+  pub named : asked.file role ≡ Some name
+  pub same : unread.role ≡ role
+  pub refuses : Refuses name files steady counts unread.end
+
+-- an input wasn't read, and all before it could be
+pub record IsUnread (inputs : List InputFile) (files : Option Files) (steady : Bool) (counts : Counts) (unread : Unread) : Type 0 where
+  pub before : List InputFile
+  pub name : List ℕ
+  pub after : List InputFile
+  pub listed : inputs ≡ before ++ (unread.role, name) ∷ after
+  pub readable : Told files (AllReadable before)
+  pub refuses : Refuses name files steady counts unread.end
+
+-- how the write of what a job has made ends
+abbrev pub Writes : Option (List ℕ) → Finished → Bool → ℕ → ℕ → Option Files → Option Files → Result (List ℕ) (End WriteFault) → Type 0
+Writes name finished steady before now old new (Ok text) = (text ≡ finished.text) × ToldBoth old new (Wrote name finished.out)
+Writes name finished steady before now old new (Err (ends.Fault fault)) =
+    Rose before now × (IsTrue steady → ⊥) × IsSome name × ToldBoth old new (WrotePart name finished.out)
+Writes name finished steady before now old new (Err ends.Memory) = ToldBoth old new (WrotePart name finished.out)

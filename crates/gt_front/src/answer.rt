@@ -1,7 +1,9 @@
 ghost use Rattle.std.specs.Prelude.{◌≡◌};
-ghost use Rattle.gt_front.specs.Answer.{status_of};
+ghost use Rattle.gt_front.specs.Answer.{status_of, answer_of, unread_answer};
 
-use gr_base::Text;
+use crate::inputs::Unread;
+use crate::verdict::Refusal;
+use gr_base::{End, ReadEnd, Text};
 use gt_read::FormatFault;
 use link_image::ImageFault;
 
@@ -13,6 +15,9 @@ pub enum Role {
     Layout,
     Input,
 }
+
+/// The roles, in the order in which their files are read.
+pub const ROLES: [Role; 4] = [Role::In, Role::Patch, Role::Layout, Role::Input];
 
 /// How a job ended.
 #[derive(Debug, Drop)]
@@ -46,6 +51,27 @@ impl Answer {
             Answer::TooLarge(_) => 6,
             Answer::Format(_) => 7,
             Answer::Image(_) => 14,
+        }
+    }
+
+    /// The answer where an input wasn't read.
+    pub fn unread(unread: Unread) -> Answer
+        ensures { result ≡ unread_answer unread.role unread.end }
+    {
+        match unread.end {
+            End::Fault(ReadEnd::Fault) => Answer::ReadFault(unread.role),
+            End::Fault(ReadEnd::TooLarge) => Answer::TooLarge(unread.role),
+            End::Memory => Answer::Memory,
+        }
+    }
+
+    /// The answer of a job that refused.
+    pub fn refused(refusal: Refusal) -> Answer
+        ensures { result ≡ answer_of refusal }
+    {
+        match refusal {
+            Refusal::Format(fault) => Answer::Format(fault),
+            Refusal::Image(fault) => Answer::Image(fault),
         }
     }
 }

@@ -3,20 +3,22 @@
 #![tactic(auto)]
 
 mod answer;
-mod files;
+mod inputs;
+pub mod laws;
 mod note;
 mod number;
+mod output;
 mod recode;
 mod run;
 mod serve;
+mod stages;
 mod state;
+mod table;
+mod verdict;
 mod words;
 
 pub use answer::{Answer, Role};
 pub use gt_read::FormatFault;
 pub use note::note_text;
 pub use serve::serve_words;
-pub use words::{Job, WordName};
-
-#[cfg(test)]
-mod tests;
+pub use table::{Job, WordName};

@@ -1,8 +1,13 @@
 ghost use Rattle.std.specs.Prelude.{◌≡◌, ◌≤◌, ◌^◌};
-ghost use Rattle.gt_front.specs.Words.{number_of};
+ghost use Rattle.gt_front.specs.Numbers.{number_of, bounded};
+
+use crate::table::Bounds;
+
+/// The most that a number of a word can be.
+pub const MOST_NUMBER: u64 = 4_294_967_295;
 
 /// The number of a word: decimal digits, at most the most.
-pub fn number(text: &str, most: u64) -> Option<u64>
+fn number(text: &str, most: u64) -> Option<u64>
     requires { most ≤ 2 ^ 32 }
     ensures { result ≡ number_of most text.now }
 {
@@ -18,4 +23,18 @@ pub fn number(text: &str, most: u64) -> Option<u64>
         value = (10 * value + u64::from(*byte - b'0')).min(most + 1);
     }
     if value <= most { Some(value) } else { None }
+}
+
+impl Bounds {
+    /// The number of a word, if it is one within the bounds.
+    pub fn number(self, text: &str) -> Option<u64>
+        ensures { result ≡ bounded self text.now }
+    {
+        let value = number(text, MOST_NUMBER)?;
+        if self.least <= value && value <= self.most {
+            Some(value)
+        } else {
+            None
+        }
+    }
 }

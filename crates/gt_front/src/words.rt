@@ -1,109 +1,60 @@
-ghost use Rattle.std.specs.Prelude.{◌≡◌, ◌<◌, ◌≤◌, IsTrue, ◌↔◌, length, Some, None, IfSome, IfNone, IfOk, IfErr, take, slice_index_or, [], false, true};
-ghost use Rattle.std.specs.Option.{option_map, option_copied};
-ghost use Rattle.gt_front.specs.Words.{job_named, name_named, need_of, value_fits, word_parts, value_of, may_follow, is_fine, lacks_any, Usage, FineBelow};
-ghost use Rattle.gt_front.specs.declared.words.Job.TheVariants as jobs;
-ghost use Rattle.gt_front.specs.Asks.{Asks, Gives, job_asked};
+ghost use Rattle.std.specs.Prelude.{◌≡◌, ◌<◌, length, IfSome, IfNone, IfErr, IfOk, take, slice_index_or, [], false};
+ghost use Rattle.std.specs.Option.{option_map};
+ghost use Rattle.gt_front.specs.Words.{fits, given_view, word_parts, value_at, value_of, is_fine, lacks_any, Usage, FineBelow, WordsOk};
+ghost use Rattle.gt_front.specs.Picked.{picked, picked_view, settings_of, number_in};
 
-use crate::number::number;
+use crate::answer::Role;
+use crate::table::{Bounds, Job, Kind, STEPS, WordName};
 use gr_base::Text;
 
-/// The most steps of a run.
-const MOST_STEPS: u64 = 10_000_000;
-
-/// The steps of a run whose words don't say how many.
-const STEPS_UNSAID: u64 = 1_000_000;
-
-/// What the program can be asked to do.
-#[derive(Clone, Copy, Debug, PartialEq, Eq)]
-pub enum Job {
-    /// Reads a GTIRB file and writes it canonically.
-    Recode,
-    /// Runs an image and writes its output.
-    Run,
-}
-
-/// The name before the `=` of a command word.
-#[derive(Clone, Copy, Debug, PartialEq, Eq)]
-pub enum WordName {
-    In,
-    Out,
-    Input,
-    Steps,
-}
-
-/// Whether a job takes a word of some name.
-#[derive(Clone, Copy, Debug, PartialEq, Eq)]
-pub enum Need {
-    Required,
-    Optional,
-    Unknown,
-}
-
-impl Job {
-    /// The job that the first word names.
-    pub fn named(word: &str) -> Option<Job>
-        ensures { result ≡ job_named word.now }
-    {
-        match word {
-            "recode" => Some(Job::Recode),
-            "run" => Some(Job::Run),
-            _ => None,
-        }
-    }
-
-    fn need(self, name: WordName) -> Need
-        ensures { result ≡ need_of self name }
-    {
-        match (self, name) {
-            (Job::Recode | Job::Run, WordName::In | WordName::Out) => Need::Required,
-            (Job::Run, WordName::Input | WordName::Steps) => Need::Optional,
-            (Job::Recode, WordName::Input | WordName::Steps) => Need::Unknown,
-        }
-    }
-}
-
-impl WordName {
-    fn named(text: &str) -> Option<WordName>
-        ensures { result ≡ name_named text.now }
-    {
-        match text {
-            "in" => Some(WordName::In),
-            "out" => Some(WordName::Out),
-            "input" => Some(WordName::Input),
-            "steps" => Some(WordName::Steps),
-            _ => None,
-        }
-    }
-
-    /// Whether a text may stand behind the `=` of this name.
+impl Kind {
+    /// Whether a text may stand behind the `=`.
     fn fits(self, value: &str) -> bool
-        ensures { result ≡ value_fits self value.now }
+        ensures { result ≡ fits self value.now }
     {
         match self {
-            WordName::In | WordName::Out | WordName::Input => !value.is_empty()
-                && value.len() <= 4096,
-            WordName::Steps => number(value, MOST_STEPS).is_some(),
+            Kind::File => !value.is_empty() && value.len() <= 4096,
+            Kind::Number(bounds) => bounds.number(value).is_some(),
         }
     }
 }
 
-/// The name and the value of a word.
-fn parts(word: &str) -> Option<(WordName, &str)>
-    ensures { option_map (λ p. (p.0, p.1.now)) result ≡ word_parts word.now }
+/// What stands before and behind the `=` of a word.
+#[derive(Clone, Copy, Debug)]
+struct Said<'a> {
+    name: WordName,
+    kind: Kind,
+    value: &'a str,
+}
+
+/// The parts of a word, if what stands before the `=` is a name.
+fn parts(word: &str) -> Option<Said<'_>>
+    ensures { option_map given_view result ≡ word_parts word.now }
 {
     let (name, value) = word.split_once('=')?;
-    Some((WordName::named(name)?, value))
+    let (name, _, kind) = WordName::named(name)?;
+    Some(Said { name, kind, value })
+}
+
+/// The value that a word gives to a name.
+fn value_at(name: WordName, word: &str) -> Option<&str>
+    ensures { option_map (λ v. v.now) result ≡ value_at name word.now }
+{
+    let said = parts(word)?;
+    if said.name == name {
+        Some(said.value)
+    } else {
+        None
+    }
 }
 
 /// The value that the first word of a name gives.
-pub fn value_in(name: WordName, words: &[Text]) -> Option<&str>
+fn value_in(name: WordName, words: &[Text]) -> Option<&str>
     ensures { option_map (λ v. v.now) result ≡ value_of name words.now }
 {
     for word in words {
-        if let Some((given, value)) = parts(word.as_str()) {
-            if given == name {
-                return Some(value);
-            }
+        if let Some(value) = value_at(name, word.as_str()) {
+            return Some(value);
         }
     }
     None
@@ -117,34 +68,13 @@ fn is_fine(earlier: &[Text], word: &str) -> bool
         return Job::named(word).is_some();
     };
     match (Job::named(first.as_str()), parts(word)) {
-        (Some(job), Some((name, value))) => {
-            job.need(name) != Need::Unknown && value_in(name, earlier).is_none() && name.fits(value)
+        (Some(job), Some(said)) => {
+            job.takes(said.name)
+                && value_in(said.name, earlier).is_none()
+                && said.kind.fits(said.value)
         }
         _ => false,
     }
-}
-
-/// The files that the words of `recode` name.
-#[derive(Clone, Copy, Debug)]
-pub struct RecodeWords<'a> {
-    pub input: &'a str,
-    pub output: &'a str,
-}
-
-/// The words of `run`.
-#[derive(Clone, Copy, Debug)]
-pub struct RunWords<'a> {
-    pub image: &'a str,
-    pub input: Option<&'a str>,
-    pub output: &'a str,
-    pub steps: u64,
-}
-
-/// What a well-formed list of words asks for.
-#[derive(Clone, Copy, Debug)]
-pub enum Request<'a> {
-    Recode(RecodeWords<'a>),
-    Run(RunWords<'a>),
 }
 
 /// The index of the first word that breaks the rules.
@@ -160,45 +90,71 @@ fn first_bad(words: &[Text]) -> Option<usize>
     None
 }
 
-/// The words behind `recode`, where none is missing.
-fn recode_words(rest: &[Text]) -> Option<Request<'_>>
-    ensures job { IfSome result (λ asked. job_asked asked ≡ jobs.Recode) }
-    ensures given { IfSome result (Gives rest.now) }
-    ensures missing { IfNone result (lacks_any jobs.Recode rest.now ≡ true) }
+/// Whether a name is wanting that the job requires.
+fn lacks_any(job: Job, words: &[Text]) -> bool
+    ensures { result ≡ lacks_any job words.now }
 {
-    let (Some(input), Some(output)) = (value_in(WordName::In, rest), value_in(WordName::Out, rest))
-    else {
-        return None;
-    };
-    Some(Request::Recode(RecodeWords { input, output }))
+    job.required()
+        .iter()
+        .any(|name| value_in(*name, words).is_none())
 }
 
-/// The words behind `run`, where none is missing.
-fn run_words(rest: &[Text]) -> Option<Request<'_>>
-    ensures job { IfSome result (λ asked. job_asked asked ≡ jobs.Run) }
-    ensures given { IfSome result (Gives rest.now) }
-    ensures missing { IfNone result (lacks_any jobs.Run rest.now ≡ true) }
+/// What the words of a job say that names no file.
+#[derive(Clone, Copy, Debug)]
+pub struct Settings {
+    /// The most steps of a run.
+    pub steps: u64,
+}
+
+/// What a well-formed list of words asks for.
+#[derive(Clone, Copy, Debug)]
+pub struct Picked<'a> {
+    pub job: Job,
+    pub settings: Settings,
+    /// The words behind the job.
+    words: &'a [Text],
+}
+
+impl<'a> Picked<'a> {
+    /// The name of the input file of a role, if a word gives it.
+    pub fn file(&self, role: Role) -> Option<&'a str>
+        ensures { option_map (λ name. name.now) result ≡ (picked_view self.now).file role }
+    {
+        value_in(role.word(), self.words)
+    }
+
+    /// The name of the file that is written, if a word gives it.
+    pub fn out(&self) -> Option<&'a str>
+        ensures { option_map (λ name. name.now) result ≡ (picked_view self.now).out }
+    {
+        value_in(WordName::Out, self.words)
+    }
+}
+
+/// The number that the words give a name, or the one that stands where none does.
+fn number_in(name: WordName, bounds: Bounds, words: &[Text]) -> u64
+    ensures { result ≡ number_in name bounds words.now }
 {
-    let (Some(image), Some(output)) = (value_in(WordName::In, rest), value_in(WordName::Out, rest))
-    else {
-        return None;
-    };
-    let input = value_in(WordName::Input, rest);
-    let steps = value_in(WordName::Steps, rest)
-        .and_then(|text| number(text, MOST_STEPS))
-        .unwrap_or(STEPS_UNSAID);
-    Some(Request::Run(RunWords {
-        image,
-        input,
-        output,
-        steps,
-    }))
+    match value_in(name, words) {
+        Some(text) => bounds.number(text).unwrap_or(bounds.unsaid),
+        None => bounds.unsaid,
+    }
+}
+
+/// What the words behind the job say that names no file.
+fn settings_in(words: &[Text]) -> Settings
+    ensures { result ≡ settings_of words.now }
+{
+    Settings {
+        steps: number_in(WordName::Steps, STEPS, words),
+    }
 }
 
 /// What the words ask for, or the index of the first one that breaks the rules, or the number of words
 /// where only a required one is missing.
-pub fn parse_words(words: &[Text]) -> Result<Request<'_>, u64>
-    ensures asked { IfOk result (Asks words.now) }
+pub fn parse_words(words: &[Text]) -> Result<Picked<'_>, u64>
+    ensures ok { IfOk result (λ asked. WordsOk words.now) }
+    ensures picked { IfOk result (λ asked. picked words.now ≡ Some (picked_view asked)) }
     ensures usage { IfErr result (Usage words.now) }
 {
     if let Some(index) = first_bad(words) {
@@ -208,13 +164,12 @@ pub fn parse_words(words: &[Text]) -> Result<Request<'_>, u64>
     let [first, rest @ ..] = words else {
         return short;
     };
-    let asked = match Job::named(first.as_str()) {
-        Some(Job::Recode) => recode_words(rest),
-        Some(Job::Run) => run_words(rest),
-        None => None,
-    };
-    match asked {
-        Some(asked) => Ok(asked),
-        None => short,
+    match Job::named(first.as_str()) {
+        Some(job) if !lacks_any(job, rest) => Ok(Picked {
+            job,
+            settings: settings_in(rest),
+            words: rest,
+        }),
+        _ => short,
     }
 }

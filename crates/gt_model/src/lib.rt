@@ -6,6 +6,7 @@ mod edges;
 mod exprs;
 mod intervals;
 mod ir;
+pub mod laws;
 mod modules;
 mod symbols;
 mod tables;
@@ -18,6 +19,3 @@ pub use ir::Ir;
 pub use modules::{Module, Section};
 pub use symbols::{Payload, Symbol};
 pub use tables::Aux;
-
-#[cfg(test)]
-mod tests;

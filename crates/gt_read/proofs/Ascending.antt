@@ -42,7 +42,7 @@ module _ {K X : Type 0} (R : K → K → Ordering) (o : IsTotalOrder R) where
       by Equal h = a
       by Greater h = (a.0, h)
 
-  inserted : (es : List (K × X)) (k : K) (v : X) → IsStrictlySortedBy R (keys es) → IsStrictlySortedBy R (keys (insert_entry R es k v))
+  pub inserted : (es : List (K × X)) (k : K) (v : X) → IsStrictlySortedBy R (keys es) → IsStrictlySortedBy R (keys (insert_entry R es k v))
   unfolding IsStrictlySortedBy
   inserted [] k v s = (s, s)
   inserted (e ∷ es) k v s = by (R k e.0) refl (inserted es k v s.1)
@@ -93,7 +93,7 @@ same_keys {V = V} {W = W} NumberKey f es s = subst (IsStrictlySortedBy nat_cmp) 
     twice [] = refl
     twice (e ∷ es) = ap (λ ks. e.0 ∷ ks) (twice es)
 
-map_ascends : {V : Type 0} (k : Key) (es : List (Read (key_kind k) × V)) → IsStrictlySortedBy (key_cmp k) (map (λ (e : Read (key_kind k) × V). e.0) (map_of (key_cmp k) es))
+pub map_ascends : {V : Type 0} (k : Key) (es : List (Read (key_kind k) × V)) → IsStrictlySortedBy (key_cmp k) (map (λ (e : Read (key_kind k) × V). e.0) (map_of (key_cmp k) es))
 unfolding IsStrictlySortedBy
 map_ascends TextKey es = folded (slice_cmp nat_cmp) nat_list_cmp_total es [] tt
 map_ascends NumberKey es = folded nat_cmp nat_cmp_total es [] tt

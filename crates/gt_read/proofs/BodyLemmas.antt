@@ -10,11 +10,11 @@ use Rattle.gt_read.specs.declared.ids.IdFault.{IdFault}
 use Rattle.gt_read.specs.declared.module_drafts.IrDraft.{IrDraft}
 use Rattle.gt_read.specs.Pieces.{pieces}
 use Rattle.gt_read.specs.Faults.{faults, first_of}
-use Rattle.gt_read.specs.Drafts.{DFields, drafted, step}
-use Rattle.gt_read.specs.DraftViews.{ir_draft}
+use Rattle.gt_read.specs.Drafts.Draft.{DFields, drafted, step}
+use Rattle.gt_read.specs.Drafts.Views.{ir_draft}
 use Rattle.gt_read.specs.File.{body_at, body_meaning, version_of, version_fault, body_fault, or_else}
-use Rattle.gt_read.specs.Bodies.{IsBody}
-use Rattle.gt_read.specs.Reading.{Starts, Steps, Finishes, Folds}
+use Rattle.gt_read.specs.Drafts.Bodies.{IsBody}
+use Rattle.gt_read.specs.Drafts.Answers.{Starts, Steps, Finishes, Folds}
 use Rattle.gt_read.proofs.DraftLemmas.{folds_view, was_read}
 use Rattle.gt_read.proofs.Steps.{stepped_all}
 

@@ -11,8 +11,8 @@ use Rattle.gt_read.specs.Kinds.{Run}
 use Rattle.gt_read.specs.Meaning.{meaning}
 use Rattle.gt_read.specs.Identifiers.{plain, bad, earlier, least}
 use Rattle.gt_read.specs.Faults.{in_run}
-use Rattle.gt_read.specs.Drafts.{DFields, done, drafted, empty, opened, entered, added, step, finished, worst, fault_if}
-use Rattle.gt_read.specs.Reading.{Starts, Steps, Finishes, Folds, WasRead, Entered, EntersRun, AddsRun, FinishesIf}
+use Rattle.gt_read.specs.Drafts.Draft.{DFields, done, drafted, empty, opened, entered, added, step, finished, worst, fault_if}
+use Rattle.gt_read.specs.Drafts.Answers.{Starts, Steps, Finishes, Folds, WasRead, Entered, EntersRun, AddsRun, FinishesIf}
 use Rattle.gt_read.specs.declared.fault.FormatFault.{FormatFault}
 use Rattle.gt_read.proofs.Steps.{stepped_all}
 use Rattle.gt_read.proofs.Finishing.{back, all_worst}

@@ -10,9 +10,9 @@ use Rattle.gt_read.specs.Pieces.{pieces}
 use Rattle.gt_read.specs.Kinds.{Read, Run, absent, of_number}
 use Rattle.gt_read.specs.Meaning.{meaning, entry_of, last_value, joined_message}
 use Rattle.gt_read.specs.Identifiers.{plain, bad, least}
-use Rattle.gt_read.specs.Drafts.{DFields, drafted, drafted_plain, empty, opened, step, finished, worst}
-use Rattle.gt_read.specs.Entries.{entry_rows, EntryFinishes}
-use Rattle.gt_read.specs.Reading.{Starts, Steps, WasRead}
+use Rattle.gt_read.specs.Drafts.Draft.{DFields, drafted, drafted_plain, empty, opened, step, finished, worst}
+use Rattle.gt_read.specs.Drafts.Entries.{entry_rows, EntryFinishes}
+use Rattle.gt_read.specs.Drafts.Answers.{Starts, Steps, WasRead}
 use Rattle.gt_read.proofs.Steps.{stepped_all}
 use Rattle.gt_read.proofs.Finishing.{back, all_worst}
 use Rattle.gt_read.proofs.DraftLemmas.{folds_view}

@@ -3,12 +3,10 @@ use Rattle.std.proofs.Common.{◌≡◌, ◌≤◌, ◌<◌, ◌-◌, ℕ, take,
 use Rattle.std.proofs.lemmas.Bool.{eq-eqb}
 use Rattle.std.proofs.lemmas.List.{take_all, length-drop}
 use Rattle.gt_model.specs.Values.{Fields, Plain}
-use Rattle.gt_read.specs.Pieces.{pieces}
 use Rattle.std.specs.Option.{option_map}
 use Rattle.gt_model.specs.declared.ir.Ir.{Ir}
 use Rattle.gt_model.specs.Schema.{ir_rows}
 use Rattle.gt_model.specs.Views.{ir_value}
-use Rattle.gt_model.specs.Ordered.{ordered}
 use Rattle.gt_read.specs.declared.fault.FormatFault.{FormatFault}
 use Rattle.gt_read.specs.declared.fault.FormatFault.TheVariants.{Prefix, Version, UuidLength}
 use Rattle.gt_read.specs.declared.ids.IdFault.{IdFault}
@@ -18,9 +16,8 @@ use Rattle.gt_read.specs.File.{file, format_fault, prefix_fault, body_fault, id_
 use Rattle.gr_base.specs.declared.end.End.{End}
 use Rattle.gr_base.specs.declared.end.End.TheVariants as ends
 use Rattle.gt_read.specs.Reading.{IsFault}
-use Rattle.gt_read.specs.Bodies.{IsBody}
+use Rattle.gt_read.specs.Drafts.Bodies.{IsBody}
 use Rattle.gt_read.proofs.Prefixes.{has_prefix}
-use Rattle.gt_read.proofs.Ascending.{meaning_ordered}
 
 -- a prefix that has no fault
 pub no_fault : (p : Option ℕ) (fault : Option FormatFault) → option_map Prefix p ≡ fault → p ≡ None → fault ≡ None
@@ -80,14 +77,6 @@ is_file bytes made e b =
       value = subst (λ x. plain ir_rows (body_meaning x) ≡ ir_value made) same (sym b.value);
       same_version = sym p.version_is ∙ b.same_version ∙ sym (ap (λ (v : Fields Plain ir_rows). v.1.1.1.0) b.value);
     }
-
-pub body_ordered : (byte : ℕ) (body : List ℕ) (made : Ir) (fault : Option IdFault) → IsBody byte body made fault → ordered made
-unfolding body_meaning
-body_ordered byte body made fault b = meaning_ordered 0 (pieces body body_at) made (sym b.value)
-
-pub version_small : (byte : ℕ) (body : List ℕ) (made : Ir) (fault : Option IdFault) → IsBody byte body made fault → byte < 256 → made.version < 256
-unfolding version_of ir_rows ir_value plain
-version_small byte body made fault b lt = subst (λ n. n < 256) (b.same_version ∙ sym (ap (λ (v : Fields Plain ir_rows). v.1.1.1.0) b.value)) lt
 
 pub fault_passed : (bytes : List ℕ) (end : End FormatFault) → prefix_fault bytes ≡ None → IsFault end (body_fault (version_byte bytes) (body_of bytes)) → IsFault end (format_fault bytes)
 fault_passed bytes (ends.Fault f) e b = body_next bytes f e b

@@ -8,7 +8,7 @@ use Rattle.gt_model.specs.Values.{Field, Fields, Plain}
 use Rattle.gt_read.specs.declared.ids.IdFault.{IdFault}
 use Rattle.gt_read.specs.Kinds.{Read}
 use Rattle.gt_read.specs.Identifiers.{plain_bad, fault_at, plain_of, bad, field_bad, if_some, plain, field_plain, earlier, least}
-use Rattle.gt_read.specs.Drafts.{drafted_plain, identifier, done, drafted_field, drafted, finished_plain, finished_field, finished, fault_of, plain_fault, map_fault, fault_if, worst_field, worst}
+use Rattle.gt_read.specs.Drafts.Draft.{drafted_plain, identifier, done, drafted_field, drafted, finished_plain, finished_field, finished, fault_of, plain_fault, map_fault, fault_if, worst_field, worst}
 use Rattle.gt_read.proofs.Least.{least-append}
 
 -- ---- values

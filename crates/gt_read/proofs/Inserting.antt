@@ -13,8 +13,8 @@ use Rattle.gt_read.specs.declared.ids.IdFault.{IdFault}
 use Rattle.gt_read.specs.Kinds.{Read, Run}
 use Rattle.gt_read.specs.Meaning.{meaning, entry_of}
 use Rattle.gt_read.specs.Identifiers.{bad, least}
-use Rattle.gt_read.specs.Drafts.{entered_map}
-use Rattle.gt_read.specs.DraftViews.{expr_parts, expr_held, table_parts, table_held}
+use Rattle.gt_read.specs.Drafts.Draft.{entered_map}
+use Rattle.gt_read.specs.Drafts.Views.{expr_parts, expr_held, table_parts, table_held}
 use Rattle.gt_read.proofs.EntryLemmas.{IsEntry}
 use Rattle.gt_read.proofs.Steps.{insert-map}
 

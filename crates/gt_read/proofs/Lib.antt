@@ -19,3 +19,12 @@ pub mod FileLemmas
 pub mod OneMeaning
 pub mod EveryMeaning
 pub mod NoFault
+pub mod ListWalks
+pub mod PackedLists
+pub mod GoodPieces
+pub mod TypedMeaning
+pub mod TypedIr
+pub mod Entered
+pub mod Joined
+pub mod KeyOrders
+pub mod InOrder

@@ -7,8 +7,8 @@ use Rattle.gt_read.specs.declared.module_drafts.TableParts.{TableParts}
 use Rattle.gt_read.specs.declared.ids.IdFault.{IdFault}
 use Rattle.gt_read.specs.Kinds.{Read}
 use Rattle.gt_read.specs.Identifiers.{plain_of}
-use Rattle.gt_read.specs.Drafts.{map_fault}
-use Rattle.gt_read.specs.DraftViews.{expr_held, expr_finished, table_held, table_finished}
+use Rattle.gt_read.specs.Drafts.Draft.{map_fault}
+use Rattle.gt_read.specs.Drafts.Views.{expr_held, expr_finished, table_held, table_finished}
 use Rattle.gt_read.proofs.Finishing.{map_back}
 
 pub exprs_back : (es : List (ℕ × HeldExpr)) → map (λ (e : Read (key_kind NumberKey) × (Fields Plain expr_rows × Option IdFault)). (plain_of (key_kind NumberKey) e.0, e.1.0)) (map expr_held es) ≡ map expr_finished es

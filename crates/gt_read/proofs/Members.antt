@@ -8,8 +8,8 @@ use Rattle.gt_read.specs.declared.expr_drafts.ValueDraft.{ValueDraft}
 use Rattle.gt_read.specs.declared.module_drafts.SymbolDraft.{SymbolDraft}
 use Rattle.gt_read.specs.Pieces.{Carried, Number, Bytes, Fixed, pieces}
 use Rattle.gt_read.specs.Kinds.{run_in}
-use Rattle.gt_read.specs.Drafts.{DFields, step}
-use Rattle.gt_read.specs.DraftViews.{symbol_draft, after_value, after_referent, expr_draft, addr_const_draft, addr_addr_draft, const_of, addr_of, TakesConst, TakesAddr, block_draft, code_draft, data_draft, code_of, data_of, TakesCode, TakesData}
+use Rattle.gt_read.specs.Drafts.Draft.{DFields, step}
+use Rattle.gt_read.specs.Drafts.Views.{symbol_draft, after_value, after_referent, expr_draft, addr_const_draft, addr_addr_draft, const_of, addr_of, TakesConst, TakesAddr, block_draft, code_draft, data_draft, code_of, data_of, TakesCode, TakesData}
 use Rattle.gt_read.proofs.DraftLemmas.{entered_view}
 
 pub value_steps : (d : SymbolDraft) (place : ℕ) (c : Carried) → symbol_draft (record d { payload = after_value d.payload c }) ≡ step symbol_rows (symbol_draft d) (record { place = place; number = 2; carried = c })

@@ -18,8 +18,8 @@ use Rattle.gt_read.specs.declared.fault.FormatFault.{FormatFault}
 use Rattle.gt_read.specs.declared.fault.FormatFault.TheVariants.{Wire}
 use Rattle.gt_read.specs.Pieces.{Bytes, Piece, piece_of, Walk, put_first, walk, pieces}
 use Rattle.gt_read.specs.Faults.{first_of, message_faults, broken_faults}
-use Rattle.gt_read.specs.Reading.{RunWithin, IsFirst, Folds}
-use Rattle.gt_read.proofs.Walks.{walk_takes, walk_fails, walk-nil}
+use Rattle.gt_read.specs.Drafts.Answers.{RunWithin, IsFirst, Folds}
+use Rattle.gt_read.proofs.Walks.{OneRecord, walk_takes, walk_fails, walk-nil}
 
 -- a cursor over the bytes of a message
 pub record Stands (bytes : List ℕ) (base : ℕ) (ahead : Ahead) : Type 0 where
@@ -87,21 +87,21 @@ pub merging_first : {D : Type 0} (steps : D → Piece → D → Type 0) (faults 
     → Merging steps faults bytes base first (record { place = base; bytes = bytes }) first
 merging_first steps faults bytes base first = record { done = []; whole = refl; folded = refl; sound = refl; stands = stands_first bytes base }
 
-pub walk_there : (bytes : List ℕ) (base : ℕ) (r : Record) (old new : Ahead) → Stands bytes base old → RunLies r.load old new → Takes r old new
+pub walk_there : (one : OneRecord) (bytes : List ℕ) (base : ℕ) (r : Record) (old new : Ahead) → Stands bytes base old → RunLies r.load old new → Takes r old new
     → walk old.bytes old.place ≡ put_first (piece_of bytes base r) (walk new.bytes new.place)
-walk_there bytes base r old new s l t = walk_takes r old new t ∙ ap (λ p. put_first p (walk new.bytes new.place)) (sym (piece_there bytes base r r.load old new s l))
+walk_there one bytes base r old new s l t = walk_takes one r old new t ∙ ap (λ p. put_first p (walk new.bytes new.place)) (sym (piece_there bytes base r r.load old new s l))
 
-pub merging_next : {D : Type 0} (steps : D → Piece → D → Type 0) (faults : Piece → List FormatFault) (bytes : List ℕ) (base : ℕ) (first : D) (old new : Ahead) (draft draft' : D) (r : Record)
+pub merging_next : (one : OneRecord) {D : Type 0} (steps : D → Piece → D → Type 0) (faults : Piece → List FormatFault) (bytes : List ℕ) (base : ℕ) (first : D) (old new : Ahead) (draft draft' : D) (r : Record)
     → Merging steps faults bytes base first old draft → Takes r old new → RunLies r.load old new → new.place + length new.bytes ≡ old.place + length old.bytes
     → steps draft (piece_of bytes base r) draft' → faults (piece_of bytes base r) ≡ [] → Merging steps faults bytes base first new draft'
-merging_next steps faults bytes base first old new draft draft' r m t l same s f =
+merging_next one steps faults bytes base first old new draft draft' r m t l same s f =
     let p = piece_of bytes base r in
     let w = walk new.bytes new.place in
     record {
       done = m.done ++ p ∷ [];
       whole =
           let next : behind m.done (put_first p w) ≡ behind (m.done ++ p ∷ []) w = ap (λ (ps : List Piece). record { pieces = ps; broken = w.broken }) (sym (append_assoc m.done (p ∷ []) w.pieces)) in
-          m.whole ∙ ap (behind m.done) (walk_there bytes base r old new m.stands l t) ∙ next;
+          m.whole ∙ ap (behind m.done) (walk_there one bytes base r old new m.stands l t) ∙ next;
       folded = folds_more steps m.done p first draft draft' m.folded s;
       sound = flat_none faults m.done p m.sound f;
       stands = stands_next bytes base r old new m.stands t same;
@@ -126,25 +126,25 @@ merged steps faults bytes base first ahead draft m e =
       ap (walked faults) m.whole ∙ walked_behind faults m.done (walk ahead.bytes ahead.place) m.sound ∙ ap (walked faults) end,
     )
 
-pub broke : {D : Type 0} (steps : D → Piece → D → Type 0) (faults : Piece → List FormatFault) (bytes : List ℕ) (base : ℕ) (first : D) (ahead : Ahead) (draft : D) (fault : WireFault)
+pub broke : (one : OneRecord) {D : Type 0} (steps : D → Piece → D → Type 0) (faults : Piece → List FormatFault) (bytes : List ℕ) (base : ℕ) (first : D) (ahead : Ahead) (draft : D) (fault : WireFault)
     → Merging steps faults bytes base first ahead draft → wire_fault ahead.bytes ahead.place fault → fault.place ≡ ahead.place → IsFirst (message_faults faults bytes base) (ends.Fault (Wire fault))
 unfolding walked
-broke steps faults bytes base first ahead draft fault m w here =
-    ap first_of (ap (walked faults) m.whole ∙ walked_behind faults m.done (walk ahead.bytes ahead.place) m.sound ∙ ap (walked faults) (walk_fails ahead.bytes ahead.place fault w here))
+broke one steps faults bytes base first ahead draft fault m w here =
+    ap first_of (ap (walked faults) m.whole ∙ walked_behind faults m.done (walk ahead.bytes ahead.place) m.sound ∙ ap (walked faults) (walk_fails one ahead.bytes ahead.place fault w here))
 
 first_more : (fs gs : List FormatFault) (e : End FormatFault) → IsFirst fs e → IsFirst (fs ++ gs) e
 first_more fs gs ends.Memory h = tt
 first_more [] gs (ends.Fault f) h = absurd cc
 first_more (g ∷ fs) gs (ends.Fault f) h = h
 
-pub refused : {D : Type 0} (steps : D → Piece → D → Type 0) (faults : Piece → List FormatFault) (bytes : List ℕ) (base : ℕ) (first : D) (old new : Ahead) (draft : D) (r : Record) (e : End FormatFault)
+pub refused : (one : OneRecord) {D : Type 0} (steps : D → Piece → D → Type 0) (faults : Piece → List FormatFault) (bytes : List ℕ) (base : ℕ) (first : D) (old new : Ahead) (draft : D) (r : Record) (e : End FormatFault)
     → Merging steps faults bytes base first old draft → Takes r old new → RunLies r.load old new → IsFirst (faults (piece_of bytes base r)) e → IsFirst (message_faults faults bytes base) e
 unfolding walked
-refused steps faults bytes base first old new draft r e m t l h =
+refused one steps faults bytes base first old new draft r e m t l h =
     let p = piece_of bytes base r in
     let w = walk new.bytes new.place in
     let all : message_faults faults bytes base ≡ (faults p ++ flat_map faults w.pieces) ++ broken_faults w.broken =
-    ap (walked faults) m.whole ∙ walked_behind faults m.done (walk old.bytes old.place) m.sound ∙ ap (walked faults) (walk_there bytes base r old new m.stands l t) in
+    ap (walked faults) m.whole ∙ walked_behind faults m.done (walk old.bytes old.place) m.sound ∙ ap (walked faults) (walk_there one bytes base r old new m.stands l t) in
     rw all (first_more (faults p ++ flat_map faults w.pieces) (broken_faults w.broken) e (first_more (faults p) (flat_map faults w.pieces) e h))
 
 -- what a call says of the record that it found

@@ -12,7 +12,7 @@ use Rattle.gt_read.specs.Pieces.{pieces}
 use Rattle.gt_read.specs.Identifiers.{bad, least, plain}
 use Rattle.gt_read.specs.Faults.{faults, first_of}
 use Rattle.gt_read.specs.File.{file, format_fault, prefix_fault, body_fault, id_fault, version_of, version_fault, version_byte, body_of, body_at, body_meaning, or_else}
-use Rattle.gt_read.specs.Bodies.{IsBody}
+use Rattle.gt_read.specs.Drafts.Bodies.{IsBody}
 use Rattle.gt_read.proofs.FileLemmas.{is_file}
 use Rattle.gt_read.proofs.EveryMeaning.{Made, ir_made}
 

@@ -13,7 +13,6 @@ use Rattle.gt_read.specs.Faults.{faults, first_of}
 use Rattle.gt_read.specs.Identifiers.{bad, least, plain}
 use Rattle.gt_read.specs.File.{file, letters, format_fault, prefix_fault, body_fault, id_fault, version_of, version_fault, version_byte, body_of, body_at, body_meaning, differs_at, or_else}
 use Rattle.gt_read.proofs.Prefixes.{sound}
-use Rattle.gt_model.proofs.Injective.{ir_injective}
 
 -- ---- the parts of a file
 
@@ -26,8 +25,8 @@ byte_is bytes ir f = ap version_byte f.whole
 value_is : (bytes : List ℕ) (ir : Ir) → file bytes ir → plain ir_rows (body_meaning (body_of bytes)) ≡ ir_value ir
 value_is bytes ir f = ap (λ b. plain ir_rows (body_meaning b)) (body_is bytes ir f) ∙ f.value
 
-pub one_meaning : (bytes : List ℕ) (a b : Ir) → file bytes a → file bytes b → a ≡ b
-one_meaning bytes a b f g = ir_injective a b (sym (value_is bytes a f) ∙ value_is bytes b g)
+pub one_meaning : ((a b : Ir) → ir_value a ≡ ir_value b → a ≡ b) → (bytes : List ℕ) (a b : Ir) → file bytes a → file bytes b → a ≡ b
+one_meaning one_value bytes a b f g = one_value a b (sym (value_is bytes a f) ∙ value_is bytes b g)
 
 -- ---- no fault
 

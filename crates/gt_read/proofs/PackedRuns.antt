@@ -10,46 +10,19 @@ use Rattle.gt_read.specs.Kinds.{Packed, put_number, packed_on, packed_within, pa
 use Rattle.gt_read.specs.Faults.{packed_faults, failed_at}
 use Rattle.gt_read.specs.declared.ids.IdFault.{IdFault}
 use Rattle.gt_read.specs.Identifiers.{least, plain_bad}
-use Rattle.gt_read.specs.Drafts.{added_all}
-use Rattle.gt_read.proofs.Walks.{varint_long}
+use Rattle.gt_read.specs.Drafts.Draft.{added_all}
 
 shorter : (b : ℕ) (bs : List ℕ) (n k : ℕ) → length (b ∷ bs) ≤ suc n → 1 ≤ k → length (drop k (b ∷ bs)) ≤ n
 shorter b bs n k h one = omega (arith, length-drop k (b ∷ bs))
 
-packed_same : (n m : ℕ) (bytes : List ℕ) → length bytes ≤ n → length bytes ≤ m → packed_within n bytes ≡ packed_within m bytes
-unfolding packed_within
-packed_same zero zero bytes h k = refl
-packed_same zero (suc m) [] h k = refl
-packed_same zero (suc m) (b ∷ bs) h k = absurd (omega arith)
-packed_same (suc n) zero [] h k = refl
-packed_same (suc n) zero (b ∷ bs) h k = absurd (omega arith)
-packed_same (suc n) (suc m) [] h k = refl
-packed_same (suc n) (suc m) (b ∷ bs) h k = at (λ bytes. packed_same n m bytes) (varint_of (b ∷ bs)) refl
-  where
-    at : ((bytes : List ℕ) → length bytes ≤ n → length bytes ≤ m → packed_within n bytes ≡ packed_within m bytes)
-        → (r : Result (ℕ × ℕ) WireReason) → varint_of (b ∷ bs) ≡ r
-        → packed_on (λ found. put_number found.0 (packed_within n (drop found.1 (b ∷ bs)))) r ≡ packed_on (λ found. put_number found.0 (packed_within m (drop found.1 (b ∷ bs)))) r
-    at same (Ok found) e =
-        let one = varint_long 9 (b ∷ bs) found e in
-        ap (put_number found.0) (same (drop found.1 (b ∷ bs)) (shorter b bs n found.1 h one) (shorter b bs m found.1 k one))
-    at same (Err reason) e = refl
-
-pub packed-ok : (bytes : List ℕ) (found : ℕ × ℕ) → varint_of bytes ≡ Ok found → packed bytes ≡ put_number found.0 (packed (drop found.1 bytes))
-unfolding packed_within varint_within
-packed-ok [] found e = absurd cc
-packed-ok (b ∷ bs) found e =
-    let one = varint_long 9 (b ∷ bs) found e in
-    ap (packed_on (λ found. put_number found.0 (packed_within (length bs) (drop found.1 (b ∷ bs))))) e
-    ∙ ap (put_number found.0) (packed_same (length bs) (length (drop found.1 (b ∷ bs))) (drop found.1 (b ∷ bs)) (shorter b bs (length bs) found.1 (omega arith) one) (omega arith))
-
-packed-err : (bytes : List ℕ) (reason : WireReason) → bytes ≢ [] → varint_of bytes ≡ Err reason → packed bytes ≡ record { numbers = []; failed = Some reason }
-unfolding packed_within
-packed-err [] reason some e = absurd (some refl)
-packed-err (b ∷ bs) reason some e = ap (packed_on (λ found. put_number found.0 (packed_within (length bs) (drop found.1 (b ∷ bs))))) e
-
 pub packed-nil : packed [] ≡ record { numbers = []; failed = None }
 unfolding packed_within
 packed-nil = refl
+
+pub packed-err : (bytes : List ℕ) (reason : WireReason) → bytes ≢ [] → varint_of bytes ≡ Err reason → packed bytes ≡ record { numbers = []; failed = Some reason }
+unfolding packed_within
+packed-err [] reason some e = absurd (some refl)
+packed-err (b ∷ bs) reason some e = ap (packed_on (λ found. put_number found.0 (packed_within (length bs) (drop found.1 (b ∷ bs))))) e
 
 -- the numbers before the rest were taken
 pub record Unpacks (first : List ℤ) (bytes rest : List ℕ) (slot : List ℤ) : Type 0 where
@@ -58,18 +31,6 @@ pub record Unpacks (first : List ℤ) (bytes rest : List ℕ) (slot : List ℤ) 
 
 pub unpacks_first : (first : List ℤ) (bytes : List ℕ) → Unpacks first bytes bytes first
 unpacks_first first bytes = record { numbers = refl; failed = refl }
-
-pub unpacks_next : (first : List ℤ) (bytes rest : List ℕ) (slot : List ℤ) (found : ℕ × ℕ) (slot' : List ℤ) → Unpacks first bytes rest slot → varint_of rest ≡ Ok found
-    → slot' ≡ slot ++ cast_signed w32 (low32 found.0) ∷ [] → Unpacks first bytes (drop found.1 rest) slot'
-unpacks_next first bytes rest slot found slot' u e s =
-    let one = packed-ok rest found e in
-    record {
-      numbers =
-          ap (λ (l : List ℤ). l ++ packed_signed (drop found.1 rest)) s
-          ∙ append_assoc slot (cast_signed w32 (low32 found.0) ∷ []) (packed_signed (drop found.1 rest))
-          ∙ ap (λ (p : Packed). slot ++ filter_map (from_varint Signed32) p.numbers) (sym one) ∙ u.numbers;
-      failed = ap (λ (p : Packed). p.failed) (sym one) ∙ u.failed;
-    }
 
 pub unpacked : (first : List ℤ) (bytes rest : List ℕ) (slot : List ℤ) (place : ℕ) → Unpacks first bytes rest slot → rest ≡ []
     → (slot ≡ first ++ packed_signed bytes) × (packed_faults Signed32 place bytes ≡ [])
@@ -102,3 +63,46 @@ packed_added old new bytes e =
     no_bad : (zs : List ℤ) → ◌≡◌ {A = Option IdFault} (least (flat_map (plain_bad Signed32) zs)) None
     no_bad [] = refl
     no_bad (z ∷ zs) = no_bad zs
+
+-- a varint takes a byte at least
+abbrev pub VarintsAreLong : Type 0
+VarintsAreLong = (bytes : List ℕ) (value size : ℕ) → varint_of bytes ≡ Ok (value, size) → 1 ≤ size
+
+module _ (long : VarintsAreLong) where
+  packed_same : (n m : ℕ) (bytes : List ℕ) → length bytes ≤ n → length bytes ≤ m → packed_within n bytes ≡ packed_within m bytes
+  unfolding packed_within
+  packed_same zero zero bytes h k = refl
+  packed_same zero (suc m) [] h k = refl
+  packed_same zero (suc m) (b ∷ bs) h k = absurd (omega arith)
+  packed_same (suc n) zero [] h k = refl
+  packed_same (suc n) zero (b ∷ bs) h k = absurd (omega arith)
+  packed_same (suc n) (suc m) [] h k = refl
+  packed_same (suc n) (suc m) (b ∷ bs) h k = at (λ bytes. packed_same n m bytes) (varint_of (b ∷ bs)) refl
+    where
+      at : ((bytes : List ℕ) → length bytes ≤ n → length bytes ≤ m → packed_within n bytes ≡ packed_within m bytes)
+          → (r : Result (ℕ × ℕ) WireReason) → varint_of (b ∷ bs) ≡ r
+          → packed_on (λ found. put_number found.0 (packed_within n (drop found.1 (b ∷ bs)))) r ≡ packed_on (λ found. put_number found.0 (packed_within m (drop found.1 (b ∷ bs)))) r
+      at same (Ok found) e =
+          let one = long (b ∷ bs) found.0 found.1 e in
+          ap (put_number found.0) (same (drop found.1 (b ∷ bs)) (shorter b bs n found.1 h one) (shorter b bs m found.1 k one))
+      at same (Err reason) e = refl
+
+  pub packed-ok : (bytes : List ℕ) (found : ℕ × ℕ) → varint_of bytes ≡ Ok found → packed bytes ≡ put_number found.0 (packed (drop found.1 bytes))
+  unfolding packed_within varint_within
+  packed-ok [] found e = absurd cc
+  packed-ok (b ∷ bs) found e =
+      let one = long (b ∷ bs) found.0 found.1 e in
+      ap (packed_on (λ found. put_number found.0 (packed_within (length bs) (drop found.1 (b ∷ bs))))) e
+      ∙ ap (put_number found.0) (packed_same (length bs) (length (drop found.1 (b ∷ bs))) (drop found.1 (b ∷ bs)) (shorter b bs (length bs) found.1 (omega arith) one) (omega arith))
+
+  pub unpacks_next : (first : List ℤ) (bytes rest : List ℕ) (slot : List ℤ) (found : ℕ × ℕ) (slot' : List ℤ) → Unpacks first bytes rest slot → varint_of rest ≡ Ok found
+      → slot' ≡ slot ++ cast_signed w32 (low32 found.0) ∷ [] → Unpacks first bytes (drop found.1 rest) slot'
+  unpacks_next first bytes rest slot found slot' u e s =
+      let one = packed-ok rest found e in
+      record {
+        numbers =
+            ap (λ (l : List ℤ). l ++ packed_signed (drop found.1 rest)) s
+            ∙ append_assoc slot (cast_signed w32 (low32 found.0) ∷ []) (packed_signed (drop found.1 rest))
+            ∙ ap (λ (p : Packed). slot ++ filter_map (from_varint Signed32) p.numbers) (sym one) ∙ u.numbers;
+        failed = ap (λ (p : Packed). p.failed) (sym one) ∙ u.failed;
+      }

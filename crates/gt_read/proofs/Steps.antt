@@ -19,7 +19,7 @@ use Rattle.gt_read.specs.Meaning.{last, last_value, joined, joined_message, alon
 use Rattle.gt_read.specs.Identifiers.{plain_bad, plain_of, bad, plain, least}
 use Rattle.gt_read.proofs.Lists.{filter-push, push_option, filter_map-push, or_new, last-push_option, trailing-push, fold-over}
 use Rattle.gt_read.proofs.Least.{least-append}
-use Rattle.gt_read.specs.Drafts.{drafted_plain, done, drafted_field, drafted, kept, entered, added, added_all, entered_map, step_field, step}
+use Rattle.gt_read.specs.Drafts.Draft.{drafted_plain, done, drafted_field, drafted, kept, entered, added, added_all, entered_map, step_field, step}
 
 -- ---- a plain field
 

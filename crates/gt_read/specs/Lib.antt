@@ -3,10 +3,9 @@ pub mod Kinds
 pub mod Meaning
 pub mod Faults
 pub mod Identifiers
+pub mod Places
 pub mod File
-pub mod Bodies
-pub mod Drafts
+pub mod Joining
 pub mod Reading
-pub mod Entries
-pub mod DraftViews
 pub mod FaultText
+pub mod Drafts

@@ -1,10 +1,10 @@
 ghost use Rattle.std.specs.Prelude.{◌≡◌, IfOk};
 ghost use Rattle.gt_model.specs.Schema.{code_rows, data_rows, block_rows};
 ghost use Rattle.gt_model.specs.Views.{block_value};
-ghost use Rattle.gt_read.specs.DraftViews.{code_draft, data_draft, block_draft, code_parts, data_parts, code_of, data_of, FinishesBody, TakesCode, TakesData};
+ghost use Rattle.gt_read.specs.Drafts.Views.{code_draft, data_draft, block_draft, code_parts, data_parts, code_of, data_of, FinishesBody, TakesCode, TakesData};
 ghost use Rattle.gt_read.specs.Faults.{piece_faults, message_faults, in_run};
 ghost use Rattle.gt_read.specs.Kinds.{run_of};
-ghost use Rattle.gt_read.specs.Reading.{piece, Answers, Starts, Steps, Finishes};
+ghost use Rattle.gt_read.specs.Drafts.Answers.{piece, Answers, Starts, Steps, Finishes};
 
 use crate::block_drafts::{BlockDraft, BodyDraft, CodeDraft, CodeParts, DataDraft, DataParts};
 use crate::children::enter;

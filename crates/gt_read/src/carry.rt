@@ -1,6 +1,6 @@
 ghost use Rattle.std.specs.Prelude.{◌≡◌, ◌+◌, ◌-◌, ◌^◌, ◌≤◌, length};
 ghost use Rattle.gt_read.specs.Pieces.{piece_of};
-ghost use Rattle.gt_read.specs.Reading.{piece, RunWithin};
+ghost use Rattle.gt_read.specs.Drafts.Answers.{piece, RunWithin};
 
 use crate::pieces::{Carried, Piece, Run};
 use pb_wire::{Load, Record};

@@ -2,12 +2,12 @@
 
 ghost use Rattle.std.specs.Prelude.{◌≡◌, [], ◌∷◌, ◌++◌, None, OnOk, IfOk};
 ghost use Rattle.gt_model.specs.Schema.{Id};
-ghost use Rattle.gt_read.specs.Drafts.{added_all};
+ghost use Rattle.gt_read.specs.Drafts.Draft.{added_all};
 ghost use Rattle.gt_read.specs.Faults.{message_faults, in_run};
 ghost use Rattle.gt_read.specs.Identifiers.{earlier};
 ghost use Rattle.gt_read.specs.Kinds.{values_of, run_of};
 ghost use Rattle.gt_read.specs.Pieces.{pieces};
-ghost use Rattle.gt_read.specs.Reading.{piece, Answers, Entered, EntersRun, AddsRun, FinishesIf};
+ghost use Rattle.gt_read.specs.Drafts.Answers.{piece, Answers, Entered, EntersRun, AddsRun, FinishesIf};
 
 use crate::fault::FormatFault;
 use crate::ids::{IdFault, Identifier, earlier};

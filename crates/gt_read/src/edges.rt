@@ -1,8 +1,8 @@
 ghost use Rattle.gt_model.specs.Schema.{label_rows, edge_rows, cfg_rows};
 ghost use Rattle.gt_model.specs.Views.{label_value, edge_value, cfg_value};
-ghost use Rattle.gt_read.specs.DraftViews.{label_draft, edge_draft, cfg_draft};
+ghost use Rattle.gt_read.specs.Drafts.Views.{label_draft, edge_draft, cfg_draft};
 ghost use Rattle.gt_read.specs.Faults.{piece_faults};
-ghost use Rattle.gt_read.specs.Reading.{Starts, Steps, Finishes};
+ghost use Rattle.gt_read.specs.Drafts.Answers.{Starts, Steps, Finishes};
 
 use crate::children::{Children, finish_message, take_child, take_ids, take_message};
 use crate::edge_drafts::{CfgDraft, EdgeDraft};

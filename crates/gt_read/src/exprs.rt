@@ -1,12 +1,12 @@
 ghost use Rattle.std.specs.Prelude.{◌≡◌, map, IfOk, OnOk};
 ghost use Rattle.gt_model.specs.Schema.{NumberKey, addr_const_rows, addr_addr_rows, expr_rows};
 ghost use Rattle.gt_model.specs.Views.{expr_entry};
-ghost use Rattle.gt_read.specs.DraftViews.{addr_const_draft, addr_addr_draft, expr_draft, addr_const, addr_addr, expr_parts, expr_entry_draft, expr_entry_parts, expr_held, expr_finished, const_of, addr_of, FinishesValue, TakesConst, TakesAddr};
-ghost use Rattle.gt_read.specs.Drafts.{entered_map, map_fault};
-ghost use Rattle.gt_read.specs.Entries.{entry_rows, EntryFinishes};
+ghost use Rattle.gt_read.specs.Drafts.Views.{addr_const_draft, addr_addr_draft, expr_draft, addr_const, addr_addr, expr_parts, expr_entry_draft, expr_entry_parts, expr_held, expr_finished, const_of, addr_of, FinishesValue, TakesConst, TakesAddr};
+ghost use Rattle.gt_read.specs.Drafts.Draft.{entered_map, map_fault};
+ghost use Rattle.gt_read.specs.Drafts.Entries.{entry_rows, EntryFinishes};
 ghost use Rattle.gt_read.specs.Faults.{piece_faults, faults, entry_faults, message_faults, in_run};
 ghost use Rattle.gt_read.specs.Kinds.{run_of};
-ghost use Rattle.gt_read.specs.Reading.{piece, Answers, Starts, Steps, Finishes};
+ghost use Rattle.gt_read.specs.Drafts.Answers.{piece, Answers, Starts, Steps, Finishes};
 
 use crate::children::{enter, finish_message, take_message};
 use crate::expr_drafts::{

@@ -1,13 +1,15 @@
 ghost use Rattle.std.specs.Prelude.{◌≡◌, ◌+◌, ◌-◌, ◌≤◌, ◌<◌, ◌^◌, length, IfOk, IfErr};
 ghost use Rattle.std.specs.Option.{option_map};
 ghost use Rattle.gt_model.specs.Ordered.{ordered};
+ghost use Rattle.gt_model.specs.Typed.{typed};
 ghost use Rattle.gt_read.specs.declared.fault.FormatFault.TheVariants.{Prefix};
 ghost use Rattle.gt_read.specs.File.{file, format_fault, prefix_fault, body_fault};
 ghost use Rattle.gt_read.specs.Reading.{IsFault};
-ghost use Rattle.gt_read.specs.Bodies.{IsBody};
+ghost use Rattle.gt_read.specs.Drafts.Bodies.{IsBody};
 
 use crate::fault::FormatFault;
 use crate::ids::IdFault;
+use crate::laws;
 use crate::message::{Message, merge};
 use crate::module_drafts::IrDraft;
 use gr_base::End;
@@ -59,9 +61,11 @@ fn read_body(
 pub fn read_file(alloc: Global, bytes: &[u8]) -> Result<Ir, End<FormatFault>>
     ensures found { IfOk result (λ ir. file bytes.now ir) }
     ensures fault { IfErr result (λ end. IsFault end (format_fault bytes.now)) }
+    ensures typed { IfOk result typed }
+    ensures order { IfOk result ordered }
     ensures version { IfOk result (λ ir. ir.version < 256) }
-    ensures order { IfOk result (λ ir. ordered ir) }
 {
+    laws::a_file_is_typed();
     if let Some(place) = prefix_fault(bytes) {
         return Err(End::Fault(FormatFault::Prefix(place)));
     }

@@ -1,9 +1,9 @@
 ghost use Rattle.std.specs.Prelude.{◌≡◌, []};
 ghost use Rattle.gt_model.specs.Schema.{Id, OptionalId};
-ghost use Rattle.gt_read.specs.Drafts.{identifier, kept, drafted_plain, finished_plain, plain_fault};
+ghost use Rattle.gt_read.specs.Drafts.Draft.{identifier, kept, drafted_plain, finished_plain, plain_fault};
 ghost use Rattle.gt_read.specs.Identifiers.{earlier};
 ghost use Rattle.gt_read.specs.Kinds.{value_of};
-ghost use Rattle.gt_read.specs.Reading.{piece};
+ghost use Rattle.gt_read.specs.Drafts.Answers.{piece};
 
 use crate::pieces::{Carried, Piece};
 use uuid::Uuid;

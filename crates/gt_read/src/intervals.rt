@@ -1,8 +1,8 @@
 ghost use Rattle.gt_model.specs.Schema.{interval_rows};
 ghost use Rattle.gt_model.specs.Views.{interval_value};
-ghost use Rattle.gt_read.specs.DraftViews.{interval_draft};
+ghost use Rattle.gt_read.specs.Drafts.Views.{interval_draft};
 ghost use Rattle.gt_read.specs.Faults.{piece_faults};
-ghost use Rattle.gt_read.specs.Reading.{Starts, Steps, Finishes};
+ghost use Rattle.gt_read.specs.Drafts.Answers.{Starts, Steps, Finishes};
 
 use crate::block_drafts::{BlockDraft, IntervalDraft};
 use crate::children::{Children, take_child};

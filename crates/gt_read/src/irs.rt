@@ -1,8 +1,8 @@
 ghost use Rattle.gt_model.specs.Schema.{ir_rows};
 ghost use Rattle.gt_model.specs.Views.{ir_value};
-ghost use Rattle.gt_read.specs.DraftViews.{ir_draft};
+ghost use Rattle.gt_read.specs.Drafts.Views.{ir_draft};
 ghost use Rattle.gt_read.specs.Faults.{piece_faults};
-ghost use Rattle.gt_read.specs.Reading.{Starts, Steps, Finishes};
+ghost use Rattle.gt_read.specs.Drafts.Answers.{Starts, Steps, Finishes};
 
 use crate::children::{Children, finish_message, take_child, take_message};
 use crate::fault::FormatFault;

@@ -14,6 +14,7 @@ mod file;
 mod ids;
 mod intervals;
 mod irs;
+pub mod laws;
 mod message;
 mod module_drafts;
 mod modules;
@@ -26,6 +27,3 @@ mod tables;
 
 pub use fault::FormatFault;
 pub use file::read_file;
-
-#[cfg(test)]
-mod tests;

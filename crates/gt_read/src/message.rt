@@ -3,14 +3,14 @@ ghost use Rattle.gt_read.specs.Pieces.{Piece as SpecPiece, pieces};
 ghost use Rattle.gt_read.specs.declared.fault.FormatFault.{FormatFault};
 ghost use Rattle.gt_read.specs.declared.ids.IdFault.{IdFault};
 ghost use Rattle.gt_read.specs.Faults.{message_faults};
-ghost use Rattle.gt_read.specs.Reading.{piece, Answers, Folds, WasRead};
+ghost use Rattle.gt_read.specs.Drafts.Answers.{piece, Answers, Folds, WasRead};
 
 use crate::carry::carry;
 use crate::fault::FormatFault;
 use crate::ids::IdFault;
 use crate::pieces::{Piece, Run};
 use gr_base::End;
-use pb_wire::Cursor;
+use pb_wire::{Cursor, laws};
 use std::alloc::{AllocError, Global};
 
 /// The draft of a message, which takes one record after another.
@@ -49,6 +49,7 @@ pub fn merge<M: Message>(
     requires { base + length bytes.now ≤ 2 ^ 64 - 1 }
     ensures { Answers result (message_faults M.faults bytes.now base) (λ _. Folds M.steps draft.old (pieces bytes.now base) draft.new) }
 {
+    laws::records_are_read();
     let mut cursor = Cursor::new(bytes, base);
     'records: loop {
         match cursor.next() {

@@ -1,8 +1,8 @@
 ghost use Rattle.gt_model.specs.Schema.{proxy_rows, section_rows, module_rows};
 ghost use Rattle.gt_model.specs.Views.{proxy_value, section_value, module_value};
-ghost use Rattle.gt_read.specs.DraftViews.{proxy_draft, section_draft, module_draft};
+ghost use Rattle.gt_read.specs.Drafts.Views.{proxy_draft, section_draft, module_draft};
 ghost use Rattle.gt_read.specs.Faults.{piece_faults};
-ghost use Rattle.gt_read.specs.Reading.{Starts, Steps, Finishes};
+ghost use Rattle.gt_read.specs.Drafts.Answers.{Starts, Steps, Finishes};
 
 use crate::block_drafts::IntervalDraft;
 use crate::children::{Children, take_child};

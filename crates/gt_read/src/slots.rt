@@ -2,10 +2,10 @@
 
 ghost use Rattle.std.specs.Prelude.{◌≡◌};
 ghost use Rattle.gt_model.specs.Schema.{Text as TextKind, Blob, Unsigned64, Signed64, Unsigned32, Signed32, Flag};
-ghost use Rattle.gt_read.specs.Drafts.{kept, drafted_plain};
+ghost use Rattle.gt_read.specs.Drafts.Draft.{kept, drafted_plain};
 ghost use Rattle.gt_read.specs.Faults.{plain_faults};
 ghost use Rattle.gt_read.specs.Kinds.{value_of, low32};
-ghost use Rattle.gt_read.specs.Reading.{piece, Answers};
+ghost use Rattle.gt_read.specs.Drafts.Answers.{piece, Answers};
 
 use crate::fault::FormatFault;
 use crate::pieces::{Carried, Piece};

@@ -1,9 +1,9 @@
 ghost use Rattle.std.specs.Prelude.{◌≡◌};
 ghost use Rattle.gt_model.specs.Schema.{symbol_rows};
 ghost use Rattle.gt_model.specs.Views.{symbol_value};
-ghost use Rattle.gt_read.specs.DraftViews.{symbol_draft, after_value, after_referent, FinishesPayload};
+ghost use Rattle.gt_read.specs.Drafts.Views.{symbol_draft, after_value, after_referent, FinishesPayload};
 ghost use Rattle.gt_read.specs.Faults.{piece_faults};
-ghost use Rattle.gt_read.specs.Reading.{piece, Starts, Steps, Finishes};
+ghost use Rattle.gt_read.specs.Drafts.Answers.{piece, Starts, Steps, Finishes};
 
 use crate::fault::FormatFault;
 use crate::ids::{IdFault, Identifier, earlier};

@@ -1,12 +1,12 @@
 ghost use Rattle.std.specs.Prelude.{◌≡◌, map, IfOk};
 ghost use Rattle.gt_model.specs.Schema.{TextKey, table_rows};
 ghost use Rattle.gt_model.specs.Views.{table_entry};
-ghost use Rattle.gt_read.specs.DraftViews.{table_draft, table_parts, table_entry_draft, table_entry_parts, table_held, table_finished};
-ghost use Rattle.gt_read.specs.Drafts.{entered_map};
-ghost use Rattle.gt_read.specs.Entries.{entry_rows, EntryFinishes};
+ghost use Rattle.gt_read.specs.Drafts.Views.{table_draft, table_parts, table_entry_draft, table_entry_parts, table_held, table_finished};
+ghost use Rattle.gt_read.specs.Drafts.Draft.{entered_map};
+ghost use Rattle.gt_read.specs.Drafts.Entries.{entry_rows, EntryFinishes};
 ghost use Rattle.gt_read.specs.Faults.{piece_faults, faults, entry_faults, message_faults, in_run};
 ghost use Rattle.gt_read.specs.Kinds.{run_of};
-ghost use Rattle.gt_read.specs.Reading.{piece, Answers, Starts, Steps, Finishes};
+ghost use Rattle.gt_read.specs.Drafts.Answers.{piece, Answers, Starts, Steps, Finishes};
 
 use crate::children::{finish_message, take_message};
 use crate::fault::FormatFault;

@@ -1,6 +1,6 @@
 -- What it is to read back, for a field and for a message.
 use Rattle.std.proofs.Common.{◌≡◌, ℕ, Bool, true, false, cond, List, [], ◌∷◌, ◌++◌, refl, ap, ◌∙◌}
-use Rattle.std.specs.Prelude.{◌==◌, ◌&&◌}
+use Rattle.std.specs.Prelude.{◌==◌, ◌&&◌, Option, Some, None, IfSome}
 use Rattle.std.specs.List.{AllByRecursion, flat_map, list_any}
 use Rattle.std.proofs.lemmas.Bool.{eq-eqb}
 use Rattle.gt_model.specs.Schema.{Members, Row, Rows}
@@ -30,6 +30,14 @@ pub record MessageBack (rows : Rows) (v : Fields Plain rows) (base : ℕ) : Type
   pub value : (first : ℕ) → plain rows (meaning rows first ps) ≡ v
   pub clean : (first : ℕ) → bad rows (meaning rows first ps) ≡ []
   pub sound : AllByRecursion (λ p. piece_faults rows p ≡ []) ps
+
+pub all_two : {A : Type 0} (P Q : A → Type 0) (xs : List A) → AllByRecursion P xs → AllByRecursion Q xs → AllByRecursion (λ x. P x × Q x) xs
+all_two P Q [] p q = tt
+all_two P Q (x ∷ xs) p q = ((p.0, q.0), all_two P Q xs p.1 q.1)
+
+pub some_two : {A : Type 0} (P Q : A → Type 0) (o : Option A) → IfSome o P → IfSome o Q → IfSome o (λ x. P x × Q x)
+some_two P Q None p q = tt
+some_two P Q (Some x) p q = (p, q)
 
 pub all_none : {A F : Type 0} (f : A → List F) (xs : List A) → AllByRecursion (λ x. f x ≡ []) xs → flat_map f xs ≡ []
 all_none f [] all = refl

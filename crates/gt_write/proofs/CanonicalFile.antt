@@ -1,7 +1,6 @@
 -- The canonical spelling of an IR is a file that means it.
-use Rattle.std.proofs.Common.{ℕ, ◌^◌, ◌<◌, List, [], ◌++◌, length, refl, ap, ◌∙◌, arith}
+use Rattle.std.proofs.Common.{ℕ, List, [], ◌++◌, refl, ap, ◌∙◌}
 use Rattle.std.specs.List.{flat_map}
-use Rattle.std.proofs.lemmas.List.{length-append}
 use Rattle.gt_model.specs.declared.ir.Ir.{Ir}
 use Rattle.gt_model.specs.Schema.{ir_rows}
 use Rattle.gt_model.specs.Typed.{typed}
@@ -14,22 +13,20 @@ use Rattle.gt_read.specs.Identifiers.{bad, plain}
 use Rattle.gt_read.specs.Faults.{piece_faults, broken_faults}
 use Rattle.gt_read.specs.File.{file, body_at, body_meaning}
 use Rattle.gt_write.specs.Spelling.{spelling}
-use Rattle.gt_write.specs.Canonical.{prefix, canonical}
+use Rattle.gt_write.specs.Canonical.{canonical}
+use Rattle.gt_write.specs.Lengths.{every_length_fits}
+use Rattle.gt_write.proofs.ReadingLaws.{ReadingLaws}
 use Rattle.gt_write.proofs.Walking.{walked}
 use Rattle.gt_write.proofs.Backs.{MessageBack, all_none}
 use Rattle.gt_write.proofs.ReadsBack.{message_reads_back}
 use Rattle.gt_write.proofs.SpellableIr.{ir_spellable}
 
-module _ (ir : Ir) (t : typed ir) (o : ordered ir) (short : length (canonical ir) < 2 ^ 64) where
+module _ (laws : ReadingLaws) (ir : Ir) (t : typed ir) (o : ordered ir) (short : every_length_fits ir) where
   abbrev body : List ℕ
   body = spelling ir_rows (ir_value ir)
 
-  body_short : length body < 2 ^ 64
-  unfolding canonical
-  body_short = omega (arith, short, length-append (prefix ir.version) body)
-
   back : MessageBack ir_rows (ir_value ir) body_at
-  back = message_reads_back ir_rows (ir_value ir) body_at (ir_spellable ir t o) body_short
+  back = message_reads_back laws ir_rows (ir_value ir) body_at (ir_spellable ir t o) short
 
   pub canonical_file : file (canonical ir) ir
   unfolding canonical body_meaning

@@ -1,8 +1,7 @@
 -- A record for each element of a list.
-use Rattle.std.proofs.Common.{◌≡◌, ℕ, ◌+◌, ◌^◌, ◌<◌, cond, List, [], ◌∷◌, ◌++◌, length, map, Option, Some, refl, sym, ap, subst, ◌∙◌, arith}
+use Rattle.std.proofs.Common.{◌≡◌, ℕ, ◌+◌, cond, List, [], ◌∷◌, ◌++◌, length, map, Option, Some, refl, sym, ap, subst, ◌∙◌}
 use Rattle.std.specs.List.{AllByRecursion, flat_map, filter_map, cons_option}
 use Rattle.std.proofs.lemmas.Bool.{eq-eqb}
-use Rattle.std.proofs.lemmas.List.{length-append}
 use Rattle.gt_read.specs.Pieces.{Piece}
 use Rattle.gt_read.specs.Kinds.{of_number}
 use Rattle.gt_write.proofs.Walking.{Walks, walks_nil, walks_append}
@@ -28,13 +27,11 @@ pub record EachBack {A : Type 0} (spell : A → List ℕ) (number : ℕ) (Q : A 
   pub pairs : Pairs Q xs ps
 
 module _ {A : Type 0} (P : A → Type 0) (spell : A → List ℕ) (number : ℕ) (Q : A → Piece → Type 0) where
-  pub each_back : ((a : A) (base : ℕ) → P a → length (spell a) < 2 ^ 64 → OneBack spell number Q a base) → (xs : List A) (base : ℕ) → AllByRecursion P xs → length (flat_map spell xs) < 2 ^ 64
-      → EachBack spell number Q xs base
-  each_back one [] base all short = record { ps = []; walks = walks_nil base; numbers = tt; pairs = tt }
-  each_back one (a ∷ xs) base all short =
-      let len : length (spell a ++ flat_map spell xs) ≡ length (spell a) + length (flat_map spell xs) = length-append (spell a) (flat_map spell xs) in
-      let first = one a base all.0 (omega (arith, short, len)) in
-      let rest = each_back one xs (base + length (spell a)) all.1 (omega (arith, short, len)) in
+  pub each_back : ((a : A) (base : ℕ) → P a → OneBack spell number Q a base) → (xs : List A) (base : ℕ) → AllByRecursion P xs → EachBack spell number Q xs base
+  each_back one [] base all = record { ps = []; walks = walks_nil base; numbers = tt; pairs = tt }
+  each_back one (a ∷ xs) base all =
+      let first = one a base all.0 in
+      let rest = each_back one xs (base + length (spell a)) all.1 in
       record {
         ps = first.piece ∷ rest.ps;
         walks = walks_append (spell a) (flat_map spell xs) base (first.piece ∷ []) rest.ps first.walks rest.walks;

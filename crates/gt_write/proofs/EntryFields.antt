@@ -1,5 +1,5 @@
 -- Maps read back, by what is so of the messages in their entries.
-use Rattle.std.proofs.Common.{◌≡◌, ℕ, ◌+◌, ◌^◌, ◌<◌, List, [], ◌∷◌, ◌++◌, map, length, Some, refl, sym, ap, subst, ◌∙◌, arith}
+use Rattle.std.proofs.Common.{◌≡◌, ℕ, ◌+◌, List, [], ◌∷◌, ◌++◌, map, length, Some, refl, sym, ap, subst, ◌∙◌, arith}
 use Rattle.std.specs.Prelude.{unwrap_or}
 use Rattle.std.specs.declared.cmp.Ordering.{Ordering}
 use Rattle.std.specs.Ordering.{nat_cmp}
@@ -7,7 +7,6 @@ use Rattle.std.specs.Cmp.Lexicographic.{slice_cmp}
 use Rattle.std.specs.List.{AllByRecursion, flat_map, filter_map}
 use Rattle.std.specs.List.Sorted.{IsStrictlySortedBy}
 use Rattle.std.proofs.lemmas.Cmp.{nat_cmp_total, nat_list_cmp_total}
-use Rattle.std.proofs.lemmas.List.{length-append}
 use Rattle.gt_model.specs.Schema.{Key, TextKey, NumberKey, key_kind, Rows, entries}
 use Rattle.gt_model.specs.Values.{Fields, Plain}
 use Rattle.gt_read.specs.declared.fault.FormatFault.{FormatFault}
@@ -17,8 +16,10 @@ use Rattle.gt_read.specs.Meaning.{meaning, joined_message, last_value, key_cmp, 
 use Rattle.gt_read.specs.Identifiers.{plain, plain_of, bad}
 use Rattle.gt_read.specs.Faults.{field_faults, piece_faults, message_faults, broken_faults, entry_faults, in_run}
 use Rattle.gt_write.specs.Spelling.{spelling, plain_record, run_record}
+use Rattle.gt_write.specs.Lengths.{LengthFits, plain_length}
+use Rattle.gt_write.proofs.ReadingLaws.{ReadingLaws}
 use Rattle.gt_write.proofs.Walking.{Walks, walks_append, walked, run_piece, run_start, run_walks}
-use Rattle.gt_write.proofs.KindsBack.{Fits, IsNumber, PlainBack, plain_back, run_short}
+use Rattle.gt_write.proofs.KindsBack.{Fits, IsNumber, PlainBack, plain_back}
 use Rattle.gt_write.proofs.Sorted.{map_kept}
 use Rattle.gt_write.proofs.Each.{Pairs, OneBack, each_back, all_of_number, pairs_weaker, pairs_read, pairs_mapped, pairs_map, pairs_none, pairs_all}
 use Rattle.gt_write.proofs.Backs.{FieldBack, MessageBack, at_own}
@@ -84,22 +85,16 @@ module _ (k : Key) (rows : Rows) where
   two_number : IsNumber 2
   two_number = record { first = omega arith; last = omega arith }
 
-  module _ (P : Fields Plain rows → Type 0) (inner : (w : Fields Plain rows) (base : ℕ) → P w → length (spelling rows w) < 2 ^ 64 → MessageBack rows w base) where
-    module _ (e : Entry) (start : ℕ) (fits : Fits (key_kind k) e.0) (good : P e.1) (short : length (entry_text e) < 2 ^ 64) where
+  module _ (laws : ReadingLaws) (P : Fields Plain rows → Type 0) (short : (w : Fields Plain rows) → P w → LengthFits (spelling rows w)) (inner : (w : Fields Plain rows) (base : ℕ) → P w → MessageBack rows w base) where
+    module _ (e : Entry) (start : ℕ) (fits : Fits (key_kind k) e.0) (key_fits : plain_length (key_kind k) e.0) (good : P e.1) where
       abbrev first_text : List ℕ
       first_text = plain_record 1 (key_kind k) e.0
 
       abbrev second_text : List ℕ
       second_text = run_record 2 (spelling rows e.1)
 
-      first_short : length first_text < 2 ^ 64
-      first_short = omega (arith, short, length-append first_text second_text)
-
-      second_short : length second_text < 2 ^ 64
-      second_short = omega (arith, short, length-append first_text second_text)
-
       key_back : PlainBack (key_kind k) 1 e.0 start
-      key_back = plain_back 1 start one_number (key_kind k) e.0 fits first_short
+      key_back = plain_back laws 1 start one_number (key_kind k) e.0 fits key_fits
 
       abbrev key_piece : Piece
       key_piece = record { place = start; number = 1; carried = key_back.carried }
@@ -108,10 +103,10 @@ module _ (k : Key) (rows : Rows) where
       value_piece = run_piece (start + length first_text) 2 (spelling rows e.1)
 
       value_back : RunBack rows e.1 value_piece
-      value_back = run_back rows P inner 2 two_number e.1 (start + length first_text) good second_short
+      value_back = run_back rows laws P short inner 2 two_number e.1 (start + length first_text) good
 
       whole : Walks (entry_text e) start (key_piece ∷ value_piece ∷ [])
-      whole = walks_append first_text second_text start (key_piece ∷ []) (value_piece ∷ []) key_back.walks (run_walks_back rows P inner 2 two_number e.1 (start + length first_text) second_short)
+      whole = walks_append first_text second_text start (key_piece ∷ []) (value_piece ∷ []) key_back.walks (run_walks_back rows laws P short inner 2 two_number e.1 (start + length first_text) good)
 
       key_read : (place : ℕ) → (entry_at place (key_piece ∷ value_piece ∷ [])).0 ≡ key_back.read
       key_read place = ap (λ o. unwrap_or o (absent (key_kind k) place)) (last_one (key_kind k) key_piece key_back.read key_back.value)
@@ -139,28 +134,27 @@ module _ (k : Key) (rows : Rows) where
       spell e = run_record n (entry_text e)
 
       abbrev Good : Entry → Type 0
-      Good e = Fits (key_kind k) e.0 × P e.1
+      Good e = Fits (key_kind k) e.0 × P e.1 × LengthFits (entry_text e) × plain_length (key_kind k) e.0
 
-      one_entry : (e : Entry) (base : ℕ) → Good e → length (spell e) < 2 ^ 64 → OneBack spell n EntryBack e base
-      one_entry e base good short =
-          let inner_short = run_short n (entry_text e) short in
+      one_entry : (e : Entry) (base : ℕ) → Good e → OneBack spell n EntryBack e base
+      one_entry e base good =
           let start = run_start base n (entry_text e) in
           record {
             piece = run_piece base n (entry_text e);
-            walks = run_walks base n (entry_text e) num.first num.last inner_short;
+            walks = run_walks laws base n (entry_text e) num.first num.last good.2;
             number_is = refl;
             means = record {
               run = record { place = base; start = start; bytes = entry_text e };
               run_is = refl;
-              means = entry_means e start good.0 good.1 inner_short base;
-              sound = entry_sound e start good.0 good.1 inner_short;
+              means = entry_means e start good.0 good.3 good.1 base;
+              sound = entry_sound e start good.0 good.3 good.1;
             };
           }
 
-      pub entries_back : (es : List Entry) (base : ℕ) → AllByRecursion Good es → IsStrictlySortedBy (plain_cmp k) (map (λ (e : Entry). e.0) es) → length (flat_map spell es) < 2 ^ 64 → FieldBack (entries n k rows) es base
+      pub entries_back : (es : List Entry) (base : ℕ) → AllByRecursion Good es → IsStrictlySortedBy (plain_cmp k) (map (λ (e : Entry). e.0) es) → FieldBack (entries n k rows) es base
       unfolding spelling meaning plain bad piece_faults
-      entries_back es base good sorted short =
-          let b = each_back Good spell n EntryBack one_entry es base good short in
+      entries_back es base good sorted =
+          let b = each_back Good spell n EntryBack one_entry es base good in
           let own : of_number n b.ps ≡ b.ps = all_of_number n b.ps b.numbers in
           let runs : Pairs IsEntryOf es (filter_map run_of b.ps) =
           pairs_read run_of IsEntryOf es b.ps (pairs_weaker EntryBack _ (λ e p (b : EntryBack e p). (b.run, b.run_is, b.means)) es b.ps b.pairs) in

@@ -1,12 +1,11 @@
 -- A plain field that is written reads back.
-use Rattle.std.proofs.Common.{◌≡◌, ℕ, ◌^◌, ◌<◌, ◌≤◌, true, false, cond, eqb, List, [], ◌∷◌, ◌++◌, length, replicate, Some, None, refl, sym, ap, ◌∙◌, arith}
+use Rattle.std.proofs.Common.{◌≡◌, ℕ, ◌^◌, ◌<◌, ◌≤◌, true, false, cond, eqb, List, [], ◌∷◌, length, replicate, Some, None, refl, sym, ap, ◌∙◌, arith}
 use Rattle.std.specs.Prelude.{ℤ, pos, negsuc, IfSome, IsUtf8, ◌||◌}
 use Rattle.std.specs.Int.{w32, w64, cast_signed, cast_unsigned}
 use Rattle.std.proofs.lemmas.Bool.{eq-eqb, eqb-true}
 use Rattle.std.proofs.lemmas.Int.{to_z-of_z}
-use Rattle.std.proofs.lemmas.List.{length-append, nil_from_length}
+use Rattle.std.proofs.lemmas.List.{nil_from_length}
 use Rattle.std.proofs.lemmas.Str.{is_utf8-from_IsUtf8}
-use Rattle.pb_wire.specs.Varint.{shortest}
 use Rattle.gt_model.specs.Schema.{Kind, Id, OptionalId, Text, Blob, Unsigned64, Signed64, Unsigned32, Signed32, Flag, varint, run}
 use Rattle.gt_model.specs.Values.{Plain}
 use Rattle.gt_model.specs.Typed.{IsI64, IsI32}
@@ -16,7 +15,9 @@ use Rattle.gt_read.specs.Kinds.{Located, Read, low32, from_carried, absent, is_v
 use Rattle.gt_read.specs.Meaning.{wire_of}
 use Rattle.gt_read.specs.Identifiers.{plain_of, plain_bad, fault_at}
 use Rattle.gt_read.specs.Faults.{in_run, text_faults}
-use Rattle.gt_write.specs.Spelling.{key, run_record, signed_varint, plain_record, is_default}
+use Rattle.gt_write.specs.Spelling.{signed_varint, plain_record, is_default}
+use Rattle.gt_write.specs.Lengths.{LengthFits, plain_length}
+use Rattle.gt_write.proofs.ReadingLaws.{ReadingLaws}
 use Rattle.gt_write.proofs.Walking.{Walks, varint_walks, run_start, run_walks}
 
 -- the value is one of its kind
@@ -77,17 +78,14 @@ pub record PlainBack (k : Kind) (number : ℕ) (v : Plain k) (base : ℕ) : Type
   pub sound : in_run (λ place start bytes. text_faults k place bytes) base carried ≡ []
   pub wire : wire_of carried ≡ wire_of_kind k
 
-pub run_short : (number : ℕ) (bytes : List ℕ) → length (run_record number bytes) < 2 ^ 64 → length bytes < 2 ^ 64
-run_short number bytes h = omega (arith, h, length-append (key number run ++ shortest (length bytes)) bytes)
-
-module _ (number base : ℕ) (n : IsNumber number) where
-  id_back : (id : List ℕ) → length id ≡ 16 → length (run_record number id) < 2 ^ 64 → PlainBack Id number id base
+module _ (laws : ReadingLaws) (number base : ℕ) (n : IsNumber number) where
+  id_back : (id : List ℕ) → length id ≡ 16 → LengthFits id → PlainBack Id number id base
   id_back id len short =
       let is : eqb (length id) 16 ≡ true = eq-eqb _ _ len in
       let read : Located = record { place = base; bytes = id } in
       record {
         carried = Bytes (run_start base number id) id;
-        walks = run_walks base number id n.first n.last (run_short number id short);
+        walks = run_walks laws base number id n.first n.last short;
         read = read;
         value = refl;
         plain = ap (λ t. cond t id (replicate 16 0)) is;
@@ -96,13 +94,13 @@ module _ (number base : ℕ) (n : IsNumber number) where
         wire = refl;
       }
 
-  some_id_back : (id : List ℕ) → length id ≡ 16 → length (run_record number id) < 2 ^ 64 → PlainBack OptionalId number (Some id) base
+  some_id_back : (id : List ℕ) → length id ≡ 16 → LengthFits id → PlainBack OptionalId number (Some id) base
   some_id_back id len short =
       let is : eqb (length id) 16 ≡ true = eq-eqb _ _ len in
       let read : Located = record { place = base; bytes = id } in
       record {
         carried = Bytes (run_start base number id) id;
-        walks = run_walks base number id n.first n.last (run_short number id short);
+        walks = run_walks laws base number id n.first n.last short;
         read = read;
         value = refl;
         plain = ap (λ t. cond t (Some id) None) is;
@@ -111,11 +109,11 @@ module _ (number base : ℕ) (n : IsNumber number) where
         wire = refl;
       }
 
-  pub plain_back : (k : Kind) (v : Plain k) → Fits k v → length (plain_record number k v) < 2 ^ 64 → PlainBack k number v base
+  pub plain_back : (k : Kind) (v : Plain k) → Fits k v → plain_length k v → PlainBack k number v base
   plain_back Id v fits short = id_back v fits short
   plain_back OptionalId None fits short = record {
     carried = Bytes (run_start base number []) [];
-    walks = run_walks base number [] n.first n.last (omega arith);
+    walks = run_walks laws base number [] n.first n.last (omega arith);
     read = record { place = base; bytes = [] };
     value = refl;
     plain = refl;
@@ -126,7 +124,7 @@ module _ (number base : ℕ) (n : IsNumber number) where
   plain_back OptionalId (Some id) fits short = some_id_back id fits short
   plain_back Text v fits short = record {
     carried = Bytes (run_start base number v) v;
-    walks = run_walks base number v n.first n.last (run_short number v short);
+    walks = run_walks laws base number v n.first n.last short;
     read = v;
     value = refl;
     plain = refl;
@@ -136,7 +134,7 @@ module _ (number base : ℕ) (n : IsNumber number) where
   }
   plain_back Blob v fits short = record {
     carried = Bytes (run_start base number v) v;
-    walks = run_walks base number v n.first n.last (run_short number v short);
+    walks = run_walks laws base number v n.first n.last short;
     read = v;
     value = refl;
     plain = refl;
@@ -146,7 +144,7 @@ module _ (number base : ℕ) (n : IsNumber number) where
   }
   plain_back Unsigned64 v fits short = record {
     carried = Number v;
-    walks = varint_walks base number v n.first n.last fits;
+    walks = varint_walks laws base number v n.first n.last fits;
     read = v;
     value = refl;
     plain = refl;
@@ -156,7 +154,7 @@ module _ (number base : ℕ) (n : IsNumber number) where
   }
   plain_back Signed64 v fits short = record {
     carried = Number (signed_varint v);
-    walks = varint_walks base number (signed_varint v) n.first n.last (signed_fits v fits);
+    walks = varint_walks laws base number (signed_varint v) n.first n.last (signed_fits v fits);
     read = cast_signed w64 (signed_varint v);
     value = refl;
     plain = signed64_back v fits;
@@ -166,7 +164,7 @@ module _ (number base : ℕ) (n : IsNumber number) where
   }
   plain_back Unsigned32 v fits short = record {
     carried = Number v;
-    walks = varint_walks base number v n.first n.last (omega (arith, fits));
+    walks = varint_walks laws base number v n.first n.last (omega (arith, fits));
     read = low32 v;
     value = refl;
     plain = omega (arith, fits);
@@ -176,7 +174,7 @@ module _ (number base : ℕ) (n : IsNumber number) where
   }
   plain_back Signed32 v fits short = record {
     carried = Number (signed_varint v);
-    walks = varint_walks base number (signed_varint v) n.first n.last (signed_fits v (signed32_fits v fits));
+    walks = varint_walks laws base number (signed_varint v) n.first n.last (signed_fits v (signed32_fits v fits));
     read = cast_signed w32 (low32 (signed_varint v));
     value = refl;
     plain = signed32_back v fits;
@@ -186,7 +184,7 @@ module _ (number base : ℕ) (n : IsNumber number) where
   }
   plain_back Flag true fits short = record {
     carried = Number 1;
-    walks = varint_walks base number 1 n.first n.last (omega arith);
+    walks = varint_walks laws base number 1 n.first n.last (omega arith);
     read = true;
     value = refl;
     plain = refl;
@@ -196,7 +194,7 @@ module _ (number base : ℕ) (n : IsNumber number) where
   }
   plain_back Flag false fits short = record {
     carried = Number 0;
-    walks = varint_walks base number 0 n.first n.last (omega arith);
+    walks = varint_walks laws base number 0 n.first n.last (omega arith);
     read = false;
     value = refl;
     plain = refl;

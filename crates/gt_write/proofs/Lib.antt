@@ -1,3 +1,4 @@
+pub mod ReadingLaws
 pub mod Maps
 pub mod Orders
 pub mod Walking
@@ -15,3 +16,4 @@ pub mod ReadsBack
 pub mod SpellableIr
 pub mod CanonicalFile
 pub mod Typing
+pub mod LengthsFrom

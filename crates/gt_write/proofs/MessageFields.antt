@@ -1,5 +1,5 @@
 -- Embedded messages read back, by what is so of the messages in them.
-use Rattle.std.proofs.Common.{◌≡◌, ℕ, ◌^◌, ◌<◌, true, List, [], ◌∷◌, ◌++◌, map, length, Option, Some, None, refl, ap, ◌∙◌}
+use Rattle.std.proofs.Common.{◌≡◌, ℕ, true, List, [], ◌∷◌, ◌++◌, map, Option, Some, None, refl, ap, ◌∙◌}
 use Rattle.std.specs.Prelude.{IfSome}
 use Rattle.std.specs.List.{AllByRecursion, flat_map, filter_map, cons_option}
 use Rattle.std.specs.Option.{option_map}
@@ -12,9 +12,11 @@ use Rattle.gt_read.specs.Kinds.{Read, Run, run_of, of_number}
 use Rattle.gt_read.specs.Meaning.{meaning, joined, joined_message, alone, last_turn}
 use Rattle.gt_read.specs.Identifiers.{plain, bad, if_some}
 use Rattle.gt_read.specs.Faults.{field_faults, piece_faults, message_faults, broken_faults, in_run}
-use Rattle.gt_write.specs.Spelling.{spelling, run_record, if_there}
+use Rattle.gt_write.specs.Spelling.{spelling, run_record}
+use Rattle.gt_write.specs.Lengths.{LengthFits}
+use Rattle.gt_write.proofs.ReadingLaws.{ReadingLaws}
 use Rattle.gt_write.proofs.Walking.{Walks, walks_nil, walked, run_piece, run_start, run_walks}
-use Rattle.gt_write.proofs.KindsBack.{IsNumber, run_short}
+use Rattle.gt_write.proofs.KindsBack.{IsNumber}
 use Rattle.gt_write.proofs.Each.{Pairs, OneBack, each_back, all_of_number, pairs_weaker, pairs_read, pairs_mapped, pairs_map, pairs_none, pairs_all}
 use Rattle.gt_write.proofs.Backs.{FieldBack, MessageBack, all_none, at_own, is_listed, turn_one}
 
@@ -41,13 +43,13 @@ module _ (rows : Rows) where
   joined_one p r e =
       ap (λ (o : Option Run). joined inside (cons_option o [])) e ∙ ap (λ (ps : List Piece). Some (inside r.place ps)) (append-nil (pieces r.bytes r.start))
 
-  module _ (P : Fields Plain rows → Type 0) (inner : (w : Fields Plain rows) (base : ℕ) → P w → length (spelling rows w) < 2 ^ 64 → MessageBack rows w base) (n : ℕ) (num : IsNumber n) where
+  module _ (laws : ReadingLaws) (P : Fields Plain rows → Type 0) (short : (w : Fields Plain rows) → P w → LengthFits (spelling rows w)) (inner : (w : Fields Plain rows) (base : ℕ) → P w → MessageBack rows w base) (n : ℕ) (num : IsNumber n) where
     -- the record of a message
-    pub run_back : (w : Fields Plain rows) (base : ℕ) → P w → length (run_record n (spelling rows w)) < 2 ^ 64 → RunBack w (run_piece base n (spelling rows w))
-    run_back w base fits short =
+    pub run_back : (w : Fields Plain rows) (base : ℕ) → P w → RunBack w (run_piece base n (spelling rows w))
+    run_back w base fits =
         let bytes = spelling rows w in
         let start = run_start base n bytes in
-        let m = inner w start fits (run_short n bytes short) in
+        let m = inner w start fits in
         let whole = walked bytes start m.ps m.walks in
         record {
           run = record { place = base; start = start; bytes = bytes };
@@ -61,20 +63,20 @@ module _ (rows : Rows) where
               ∙ ap (λ (l : List FormatFault). l ++ []) (all_none (piece_faults rows) m.ps m.sound);
         }
 
-    pub run_walks_back : (w : Fields Plain rows) (base : ℕ) → length (run_record n (spelling rows w)) < 2 ^ 64 → Walks (run_record n (spelling rows w)) base (run_piece base n (spelling rows w) ∷ [])
-    run_walks_back w base short = run_walks base n (spelling rows w) num.first num.last (run_short n (spelling rows w) short)
+    pub run_walks_back : (w : Fields Plain rows) (base : ℕ) → P w → Walks (run_record n (spelling rows w)) base (run_piece base n (spelling rows w) ∷ [])
+    run_walks_back w base fits = run_walks laws base n (spelling rows w) num.first num.last (short w fits)
 
     -- ---- one message
 
-    set_message : (w : Fields Plain rows) (base : ℕ) → P w → length (run_record n (spelling rows w)) < 2 ^ 64 → FieldBack (message n rows) (Some w) base
+    set_message : (w : Fields Plain rows) (base : ℕ) → P w → FieldBack (message n rows) (Some w) base
     unfolding spelling meaning plain bad piece_faults
-    set_message w base fits short =
+    set_message w base fits =
         let p = run_piece base n (spelling rows w) in
-        let b = run_back w base fits short in
+        let b = run_back w base fits in
         let read : joined_message inside (of_number n (p ∷ [])) ≡ Some (alone inside b.run) = ap (joined_message inside) (all_of_number n (p ∷ []) (refl, tt)) ∙ joined_one p b.run b.run_is in
         record {
           ps = p ∷ [];
-          walks = run_walks_back w base short;
+          walks = run_walks_back w base fits;
           numbers = (refl, tt);
           unset = λ no. absurd cc;
           value = λ first. ap (option_map (plain rows)) read ∙ ap (λ (x : Fields Plain rows). Some x) b.means.value;
@@ -86,21 +88,21 @@ module _ (rows : Rows) where
     unfolding spelling meaning plain bad piece_faults
     no_message base = record { ps = []; walks = walks_nil base; numbers = tt; unset = λ no. refl; value = λ first. refl; clean = λ first. refl; sound = tt }
 
-    pub message_back : (v : Option (Fields Plain rows)) (base : ℕ) → IfSome v P → length (if_there (λ w. run_record n (spelling rows w)) v) < 2 ^ 64 → FieldBack (message n rows) v base
-    message_back None base fits short = no_message base
-    message_back (Some w) base fits short = set_message w base fits short
+    pub message_back : (v : Option (Fields Plain rows)) (base : ℕ) → IfSome v P → FieldBack (message n rows) v base
+    message_back None base fits = no_message base
+    message_back (Some w) base fits = set_message w base fits
 
     -- ---- a member of a oneof
 
-    set_member : (members : Members) → is_listed members n run ≡ true → (w : Fields Plain rows) (base : ℕ) → P w → length (run_record n (spelling rows w)) < 2 ^ 64 → FieldBack (member_message members n rows) (Some w) base
+    set_member : (members : Members) → is_listed members n run ≡ true → (w : Fields Plain rows) (base : ℕ) → P w → FieldBack (member_message members n rows) (Some w) base
     unfolding spelling meaning plain bad piece_faults
-    set_member members listed w base fits short =
+    set_member members listed w base fits =
         let p = run_piece base n (spelling rows w) in
-        let b = run_back w base fits short in
+        let b = run_back w base fits in
         let read : joined_message inside (last_turn members n (p ∷ [])) ≡ Some (alone inside b.run) = ap (joined_message inside) (turn_one members n run p listed refl refl) ∙ joined_one p b.run b.run_is in
         record {
           ps = p ∷ [];
-          walks = run_walks_back w base short;
+          walks = run_walks_back w base fits;
           numbers = (refl, tt);
           unset = λ no. absurd cc;
           value = λ first. ap (option_map (plain rows)) read ∙ ap (λ (x : Fields Plain rows). Some x) b.means.value;
@@ -112,20 +114,20 @@ module _ (rows : Rows) where
     unfolding spelling meaning plain bad piece_faults
     no_member members base = record { ps = []; walks = walks_nil base; numbers = tt; unset = λ no. refl; value = λ first. refl; clean = λ first. refl; sound = tt }
 
-    pub member_message_back : (members : Members) → is_listed members n run ≡ true → (v : Option (Fields Plain rows)) (base : ℕ) → IfSome v P → length (if_there (λ w. run_record n (spelling rows w)) v) < 2 ^ 64
+    pub member_message_back : (members : Members) → is_listed members n run ≡ true → (v : Option (Fields Plain rows)) (base : ℕ) → IfSome v P
         → FieldBack (member_message members n rows) v base
-    member_message_back members listed None base fits short = no_member members base
-    member_message_back members listed (Some w) base fits short = set_member members listed w base fits short
+    member_message_back members listed None base fits = no_member members base
+    member_message_back members listed (Some w) base fits = set_member members listed w base fits
 
     -- ---- any number of messages
 
-    one_message : (w : Fields Plain rows) (base : ℕ) → P w → length (run_record n (spelling rows w)) < 2 ^ 64 → OneBack (λ w. run_record n (spelling rows w)) n RunBack w base
-    one_message w base fits short = record { piece = run_piece base n (spelling rows w); walks = run_walks_back w base short; number_is = refl; means = run_back w base fits short }
+    one_message : (w : Fields Plain rows) (base : ℕ) → P w → OneBack (λ w. run_record n (spelling rows w)) n RunBack w base
+    one_message w base fits = record { piece = run_piece base n (spelling rows w); walks = run_walks_back w base fits; number_is = refl; means = run_back w base fits }
 
-    pub messages_back : (ws : List (Fields Plain rows)) (base : ℕ) → AllByRecursion P ws → length (flat_map (λ w. run_record n (spelling rows w)) ws) < 2 ^ 64 → FieldBack (messages n rows) ws base
+    pub messages_back : (ws : List (Fields Plain rows)) (base : ℕ) → AllByRecursion P ws → FieldBack (messages n rows) ws base
     unfolding spelling meaning plain bad piece_faults
-    messages_back ws base fits short =
-        let e = each_back P (λ w. run_record n (spelling rows w)) n RunBack one_message ws base fits short in
+    messages_back ws base fits =
+        let e = each_back P (λ w. run_record n (spelling rows w)) n RunBack one_message ws base fits in
         let own : of_number n e.ps ≡ e.ps = all_of_number n e.ps e.numbers in
         let runs : Pairs IsRunOf ws (filter_map run_of e.ps) =
         pairs_read run_of IsRunOf ws e.ps (pairs_weaker RunBack _ (λ w p (b : RunBack w p). (b.run, b.run_is, b.means)) ws e.ps e.pairs) in

@@ -1,5 +1,5 @@
 -- Plain fields and members of oneofs read back.
-use Rattle.std.proofs.Common.{◌≡◌, ℕ, ◌^◌, ◌<◌, Bool, true, false, cond, [], ◌∷◌, length, Option, Some, None, refl, sym, ap, subst, ◌∙◌}
+use Rattle.std.proofs.Common.{◌≡◌, ℕ, Bool, true, false, cond, [], ◌∷◌, Option, Some, None, refl, sym, ap, subst, ◌∙◌}
 use Rattle.std.specs.Prelude.{IfSome, unwrap_or}
 use Rattle.std.specs.List.{cons_option}
 use Rattle.std.specs.Option.{option_map}
@@ -10,7 +10,9 @@ use Rattle.gt_read.specs.Kinds.{Read, value_of, absent, of_number}
 use Rattle.gt_read.specs.Meaning.{meaning, last, last_value, last_turn}
 use Rattle.gt_read.specs.Identifiers.{plain, plain_of, plain_bad, bad, if_some}
 use Rattle.gt_read.specs.Faults.{piece_faults, text_faults}
-use Rattle.gt_write.specs.Spelling.{spelling, plain_record, plain_field, is_default, if_there}
+use Rattle.gt_write.specs.Spelling.{spelling, plain_record, plain_field, is_default}
+use Rattle.gt_write.specs.Lengths.{plain_length}
+use Rattle.gt_write.proofs.ReadingLaws.{ReadingLaws}
 use Rattle.gt_write.proofs.Walking.{Walks, walks_nil}
 use Rattle.gt_write.proofs.KindsBack.{Fits, IsNumber, PlainBack, plain_back, default_back, wire_of_kind}
 use Rattle.gt_write.proofs.Each.{all_of_number}
@@ -20,15 +22,15 @@ use Rattle.gt_write.proofs.Backs.{FieldBack, at_own, is_listed, turn_one}
 pub last_one : (k : Kind) (p : Piece) (r : Read k) → value_of k p ≡ Some r → last_value k (p ∷ []) ≡ Some r
 last_one k p r e = ap (λ (o : Option (Read k)). last (cons_option o [])) e
 
-module _ (n base : ℕ) (num : IsNumber n) (k : Kind) where
+module _ (laws : ReadingLaws) (n base : ℕ) (num : IsNumber n) (k : Kind) where
   abbrev piece : (v : Plain k) → PlainBack k n v base → Piece
   piece v b = record { place = base; number = n; carried = b.carried }
 
-  there : (v : Plain k) → Fits k v → length (plain_field n k v) < 2 ^ 64 → is_default k v ≡ false → FieldBack (field n k) v base
+  there : (v : Plain k) → Fits k v → plain_length k v → is_default k v ≡ false → FieldBack (field n k) v base
   unfolding spelling meaning plain bad piece_faults
   there v fits short e =
       let text : plain_field n k v ≡ plain_record n k v = ap (λ b. cond b [] (plain_record n k v)) e in
-      let b = plain_back n base num k v fits (subst (λ t. length t < 2 ^ 64) text short) in
+      let b = plain_back laws n base num k v fits short in
       let p = piece v b in
       let own : of_number n (p ∷ []) ≡ p ∷ [] = all_of_number n (p ∷ []) (refl, tt) in
       let read : (first : ℕ) → unwrap_or (last_value k (of_number n (p ∷ []))) (absent k first) ≡ b.read =
@@ -57,7 +59,7 @@ module _ (n base : ℕ) (num : IsNumber n) (k : Kind) where
         sound = tt;
       }
 
-  pub plain_field_back : (v : Plain k) → Fits k v → length (plain_field n k v) < 2 ^ 64 → FieldBack (field n k) v base
+  pub plain_field_back : (v : Plain k) → Fits k v → plain_length k v → FieldBack (field n k) v base
   plain_field_back v fits short = by (is_default k v) refl
     where
       by : (b : Bool) → is_default k v ≡ b → FieldBack (field n k) v base
@@ -77,10 +79,10 @@ module _ (n base : ℕ) (num : IsNumber n) (k : Kind) where
       sound = tt;
     }
 
-    pub member_set : (v : Plain k) → Fits k v → length (plain_record n k v) < 2 ^ 64 → FieldBack (member members n k) (Some v) base
+    pub member_set : (v : Plain k) → Fits k v → plain_length k v → FieldBack (member members n k) (Some v) base
     unfolding spelling meaning plain bad piece_faults
     member_set v fits short =
-        let b = plain_back n base num k v fits short in
+        let b = plain_back laws n base num k v fits short in
         let p = piece v b in
         let read : last_value k (last_turn members n (p ∷ [])) ≡ Some b.read =
         ap (last_value k) (turn_one members n (wire_of_kind k) p listed refl b.wire) ∙ last_one k p b.read b.value in
@@ -94,6 +96,6 @@ module _ (n base : ℕ) (num : IsNumber n) (k : Kind) where
           sound = (at_own n (λ place start bytes. text_faults k place bytes) p refl b.sound, tt);
         }
 
-    pub member_back : (v : Option (Plain k)) → IfSome v (Fits k) → length (if_there (plain_record n k) v) < 2 ^ 64 → FieldBack (member members n k) v base
+    pub member_back : (v : Option (Plain k)) → IfSome v (Fits k) → IfSome v (plain_length k) → FieldBack (member members n k) v base
     member_back None fits short = member_unset
     member_back (Some v) fits short = member_set v fits short

@@ -1,22 +1,23 @@
 -- Each message that is spelled reads back, by the table of its fields.
-use Rattle.std.proofs.Common.{◌≡◌, ℕ, ◌+◌, ◌^◌, ◌<◌, Bool, true, false, List, [], ◌∷◌, ◌++◌, map, length, refl, sym, ap, ◌∙◌, append_assoc, arith}
-use Rattle.std.specs.Prelude.{◌&&◌, not, nat_lt, IfSome}
+use Rattle.std.proofs.Common.{◌≡◌, ℕ, ◌+◌, ◌^◌, Bool, true, false, List, [], ◌∷◌, ◌++◌, map, length, refl, sym, ap, ◌∙◌, append_assoc}
+use Rattle.std.specs.Prelude.{◌&&◌, not, nat_lt, Option, IfSome}
 use Rattle.std.specs.List.{AllByRecursion}
 use Rattle.std.specs.List.Sorted.{IsStrictlySortedBy}
 use Rattle.std.proofs.lemmas.Bool.{ltb-true}
-use Rattle.std.proofs.lemmas.List.{length-append}
-use Rattle.gt_model.specs.Schema.{key_kind, run, Row, field, repeated, message, messages, member, member_message, entries, Rows, none, ◌&◌}
+use Rattle.gt_model.specs.Schema.{Key, key_kind, run, Row, field, repeated, message, messages, member, member_message, entries, Rows, none, ◌&◌}
 use Rattle.gt_model.specs.Values.{Plain, Field, Fields}
 use Rattle.gt_read.specs.declared.fault.FormatFault.{FormatFault}
 use Rattle.gt_read.specs.Pieces.{Piece}
 use Rattle.gt_read.specs.Meaning.{meaning, field_meaning}
 use Rattle.gt_read.specs.Identifiers.{plain, field_plain, bad, field_bad}
 use Rattle.gt_read.specs.Faults.{field_faults, piece_faults}
-use Rattle.gt_write.specs.Spelling.{field_records, spelling}
+use Rattle.gt_write.specs.Spelling.{plain_record, run_record, field_records, spelling}
+use Rattle.gt_write.specs.Lengths.{LengthFits, plain_length, field_lengths, lengths_fit}
+use Rattle.gt_write.proofs.ReadingLaws.{ReadingLaws}
 use Rattle.gt_write.proofs.Walking.{Walks, walks_nil, walks_append}
 use Rattle.gt_write.proofs.KindsBack.{Fits, IsNumber, wire_of_kind}
 use Rattle.gt_write.proofs.Foreign.{number_of, disturbs, Untouched, untouched, untouched_faults, field_among, all_append}
-use Rattle.gt_write.proofs.Backs.{FieldBack, MessageBack, is_listed}
+use Rattle.gt_write.proofs.Backs.{FieldBack, MessageBack, is_listed, all_two, some_two}
 use Rattle.gt_write.proofs.PlainFields.{plain_field_back, member_back}
 use Rattle.gt_write.proofs.RepeatedFields.{repeated_back}
 use Rattle.gt_write.proofs.MessageFields.{message_back, messages_back, member_message_back}
@@ -176,26 +177,47 @@ module _ (row : Row) (rows : Rows) (vs : Fields Plain (row & rows)) (base : ℕ)
 whole_message : (rows : Rows) (vs : Fields Plain rows) (base : ℕ) → RowsBack rows vs base → MessageBack rows vs base
 whole_message rows vs base r = record { ps = r.ps; walks = r.walks; value = λ first. r.value first [] (nothing_touches rows vs); clean = λ first. r.clean first [] (nothing_touches rows vs); sound = r.sound }
 
-mutual
-  unfolding Spellable spelling
+-- a message that can be spelled, with its length and those in it
+abbrev Sized : (rows : Rows) → Fields Plain rows → (Fields Plain rows → Type 0) → Type 0
+Sized rows w good = good w × (LengthFits (spelling rows w) × lengths_fit rows w)
 
-  field_back : (row : Row) (v : Field Plain row) (base : ℕ) → IsNumber (number_of row) → listed row ≡ true → FieldSpellable row v → length (field_records row v) < 2 ^ 64 → FieldBack row v base
-  field_back (field n k) v base num l s short = plain_field_back n base num k v s short
-  field_back (repeated n k) v base num l s short = repeated_back n num k v base s short
-  field_back (message n rows) v base num l s short = message_back rows (λ w. Spellable rows w) (λ w at good fits. whole_message rows w at (rows_back rows w at good fits)) n num v base s short
-  field_back (messages n rows) v base num l s short = messages_back rows (λ w. Spellable rows w) (λ w at good fits. whole_message rows w at (rows_back rows w at good fits)) n num v base s short
-  field_back (member members n k) v base num l s short = member_back n base num k members l v s short
-  field_back (member_message members n rows) v base num l s short =
-      member_message_back rows (λ w. Spellable rows w) (λ w at good fits. whole_message rows w at (rows_back rows w at good fits)) n num members l v base s short
-  field_back (entries n k rows) v base num l s short = entries_back k rows (λ w. Spellable rows w) (λ w at good fits. whole_message rows w at (rows_back rows w at good fits)) n num v base s.0 s.1 short
+sized_all : (rows : Rows) (good : Fields Plain rows → Type 0) (ws : List (Fields Plain rows)) → AllByRecursion good ws → AllByRecursion (λ w. LengthFits (spelling rows w) × lengths_fit rows w) ws → AllByRecursion (λ w. Sized rows w good) ws
+sized_all rows good ws s l = all_two good (λ w. LengthFits (spelling rows w) × lengths_fit rows w) ws s l
 
-  rows_back : (rows : Rows) (vs : Fields Plain rows) (base : ℕ) → Spellable rows vs → length (spelling rows vs) < 2 ^ 64 → RowsBack rows vs base
-  rows_back none vs base s short = none_back vs base
-  rows_back (row & rows) vs base s short =
-      let text = field_records row vs.0 in
-      let len = length-append text (spelling rows vs.1) in
-      together row rows vs base s.1 (field_back row vs.0 base (number_is row s.0) (listed_is row s.0) s.2 (omega (arith, short, len)))
-      (rows_back rows vs.1 (base + length text) s.3 (omega (arith, short, len)))
+sized_some : (rows : Rows) (good : Fields Plain rows → Type 0) (o : Option (Fields Plain rows)) → IfSome o good → IfSome o (λ w. LengthFits (spelling rows w) × lengths_fit rows w) → IfSome o (λ w. Sized rows w good)
+sized_some rows good o s l = some_two good (λ w. LengthFits (spelling rows w) × lengths_fit rows w) o s l
 
-pub message_reads_back : (rows : Rows) (vs : Fields Plain rows) (base : ℕ) → Spellable rows vs → length (spelling rows vs) < 2 ^ 64 → MessageBack rows vs base
-message_reads_back rows vs base s short = whole_message rows vs base (rows_back rows vs base s short)
+-- an entry that can be spelled, with its lengths
+abbrev EntryLengths : (k : Key) (rows : Rows) → Plain (key_kind k) × Fields Plain rows → Type 0
+EntryLengths k rows e = LengthFits (plain_record 1 (key_kind k) e.0 ++ run_record 2 (spelling rows e.1)) × plain_length (key_kind k) e.0 × LengthFits (spelling rows e.1) × lengths_fit rows e.1
+
+sized_entries : (k : Key) (rows : Rows) (good : Fields Plain rows → Type 0) (es : List (Plain (key_kind k) × Fields Plain rows)) → AllByRecursion (λ (e : Plain (key_kind k) × Fields Plain rows). Fits (key_kind k) e.0 × good e.1) es → AllByRecursion (EntryLengths k rows) es
+    → AllByRecursion (λ (e : Plain (key_kind k) × Fields Plain rows). Fits (key_kind k) e.0 × Sized rows e.1 good × LengthFits (plain_record 1 (key_kind k) e.0 ++ run_record 2 (spelling rows e.1)) × plain_length (key_kind k) e.0) es
+sized_entries k rows good [] s l = tt
+sized_entries k rows good (e ∷ es) s l = ((s.0.0, (s.0.1, (l.0.2, l.0.3)), l.0.0, l.0.1), sized_entries k rows good es s.1 l.1)
+
+module _ (laws : ReadingLaws) where
+  mutual
+    unfolding Spellable spelling lengths_fit
+
+    field_back : (row : Row) (v : Field Plain row) (base : ℕ) → IsNumber (number_of row) → listed row ≡ true → FieldSpellable row v → field_lengths row v → FieldBack row v base
+    field_back (field n k) v base num l s short = plain_field_back laws n base num k v s short
+    field_back (repeated n k) v base num l s short = repeated_back laws n num k v base s short
+    field_back (message n rows) v base num l s short =
+        message_back rows laws (λ w. Sized rows w (λ x. Spellable rows x)) (λ w good. good.1.0) (λ w at good. whole_message rows w at (rows_back rows w at good.0 good.1.1)) n num v base (sized_some rows (λ w. Spellable rows w) v s short)
+    field_back (messages n rows) v base num l s short =
+        messages_back rows laws (λ w. Sized rows w (λ x. Spellable rows x)) (λ w good. good.1.0) (λ w at good. whole_message rows w at (rows_back rows w at good.0 good.1.1)) n num v base (sized_all rows (λ w. Spellable rows w) v s short)
+    field_back (member members n k) v base num l s short = member_back laws n base num k members l v s short
+    field_back (member_message members n rows) v base num l s short =
+        member_message_back rows laws (λ w. Sized rows w (λ x. Spellable rows x)) (λ w good. good.1.0) (λ w at good. whole_message rows w at (rows_back rows w at good.0 good.1.1)) n num members l v base (sized_some rows (λ w. Spellable rows w) v s short)
+    field_back (entries n k rows) v base num l s short =
+        entries_back k rows laws (λ w. Sized rows w (λ x. Spellable rows x)) (λ w good. good.1.0) (λ w at good. whole_message rows w at (rows_back rows w at good.0 good.1.1)) n num v base (sized_entries k rows (λ w. Spellable rows w) v s.0 short) s.1
+
+    rows_back : (rows : Rows) (vs : Fields Plain rows) (base : ℕ) → Spellable rows vs → lengths_fit rows vs → RowsBack rows vs base
+    rows_back none vs base s short = none_back vs base
+    rows_back (row & rows) vs base s short =
+        together row rows vs base s.1 (field_back row vs.0 base (number_is row s.0) (listed_is row s.0) s.2 short.0)
+        (rows_back rows vs.1 (base + length (field_records row vs.0)) s.3 short.1)
+
+  pub message_reads_back : (rows : Rows) (vs : Fields Plain rows) (base : ℕ) → Spellable rows vs → lengths_fit rows vs → MessageBack rows vs base
+  message_reads_back rows vs base s short = whole_message rows vs base (rows_back rows vs base s short)

@@ -13,13 +13,14 @@ use Rattle.gt_read.specs.Kinds.{Read, Packed, packed, from_varint, from_bytes, f
 use Rattle.gt_read.specs.Meaning.{meaning}
 use Rattle.gt_read.specs.Identifiers.{plain, plain_of, plain_bad, bad}
 use Rattle.gt_read.specs.Faults.{field_faults, piece_faults, packed_faults, failed_at, in_run, text_faults}
-use Rattle.gt_read.proofs.PackedRuns.{packed-nil}
 use Rattle.gt_write.specs.Spelling.{spelling, signed_varint, plain_record, run_record, run_unless_empty, repeated_records}
+use Rattle.gt_write.specs.Lengths.{LengthFits, plain_length, repeated_lengths}
+use Rattle.gt_write.proofs.ReadingLaws.{ReadingLaws}
 use Rattle.gt_write.proofs.Walking.{Walks, walks_nil, run_piece, run_walks}
-use Rattle.gt_write.proofs.KindsBack.{Fits, IsNumber, plain_back, run_short, signed_fits, signed32_fits, signed64_back, signed32_back}
+use Rattle.gt_write.proofs.KindsBack.{Fits, IsNumber, plain_back, signed_fits, signed32_fits, signed64_back, signed32_back}
 use Rattle.gt_write.proofs.PackedBack.{packed_back}
 use Rattle.gt_write.proofs.Each.{Pairs, OneBack, each_back, all_of_number, pairs_weaker, pairs_read, pairs_map, pairs_none, pairs_all}
-use Rattle.gt_write.proofs.Backs.{FieldBack, at_own}
+use Rattle.gt_write.proofs.Backs.{FieldBack, at_own, all_two}
 
 -- a value that was read is the one that was written
 pub record IsReadOf (k : Kind) (v : Plain k) (r : Read k) : Type 0 where
@@ -83,10 +84,10 @@ module _ (k : Kind) where
   pairs_values (v ∷ vs) [] h = absurd h
   pairs_values (v ∷ vs) (p ∷ ps) h = subst (λ (l : List (Read k)). Pairs (IsReadOf k) (v ∷ vs) (l ++ flat_map (values_of k) ps)) (sym h.0.values_are) (h.0.means, pairs_values vs ps h.1)
 
-  module _ (is : is_varint_kind k ≡ false) (n : ℕ) (num : IsNumber n) where
-    one_value : (v : Plain k) (base : ℕ) → Fits k v → length (plain_record n k v) < 2 ^ 64 → OneBack (plain_record n k) n OneValue v base
-    one_value v base fits short =
-        let b = plain_back n base num k v fits short in
+  module _ (laws : ReadingLaws) (is : is_varint_kind k ≡ false) (n : ℕ) (num : IsNumber n) where
+    one_value : (v : Plain k) (base : ℕ) → Fits k v × plain_length k v → OneBack (plain_record n k) n OneValue v base
+    one_value v base fits =
+        let b = plain_back laws n base num k v fits.0 fits.1 in
         record {
           piece = record { place = base; number = n; carried = b.carried };
           walks = b.walks;
@@ -99,9 +100,9 @@ module _ (k : Kind) where
           };
         }
 
-    runs_back : (vs : List (Plain k)) (base : ℕ) → AllByRecursion (Fits k) vs → length (flat_map (plain_record n k) vs) < 2 ^ 64 → ValuesBack n k vs (flat_map (plain_record n k) vs) base
+    runs_back : (vs : List (Plain k)) (base : ℕ) → AllByRecursion (Fits k) vs → AllByRecursion (plain_length k) vs → ValuesBack n k vs (flat_map (plain_record n k) vs) base
     runs_back vs base fits short =
-        let e = each_back (Fits k) (plain_record n k) n OneValue one_value vs base fits short in
+        let e = each_back (λ v. Fits k v × plain_length k v) (plain_record n k) n OneValue one_value vs base (all_two (Fits k) (plain_length k) vs fits short) in
         record {
           ps = e.ps;
           walks = e.walks;
@@ -118,7 +119,7 @@ module _ (k : Kind) where
     read_is : from_varint k (code v) ≡ Some read
     means : IsReadOf k v read
 
-  module _ (is : is_varint_kind k ≡ true) (n : ℕ) (num : IsNumber n) (code : Plain k → ℕ) (back : (v : Plain k) → Fits k v → CodeBack code v) where
+  module _ (laws : ReadingLaws) (is : is_varint_kind k ≡ true) (n : ℕ) (num : IsNumber n) (code : Plain k → ℕ) (back : (v : Plain k) → Fits k v → CodeBack code v) where
     abbrev packed_text : List (Plain k) → List ℕ
     packed_text vs = flat_map (λ v. shortest (code v)) vs
 
@@ -133,17 +134,17 @@ module _ (k : Kind) where
     module _ (vs : List (Plain k)) (fits : AllByRecursion (Fits k) vs) where
       read_pairs : Pairs (IsReadOf k) vs (filter_map (from_varint k) (packed (packed_text vs)).numbers)
       read_pairs =
-          subst (λ (x : Packed). Pairs (IsReadOf k) vs (filter_map (from_varint k) x.numbers)) (sym (packed_back code vs (all_small vs fits)))
+          subst (λ (x : Packed). Pairs (IsReadOf k) vs (filter_map (from_varint k) x.numbers)) (sym (packed_back laws code vs (all_small vs fits)))
           (pairs_read (from_varint k) (IsReadOf k) vs (map code vs) (code_pairs vs fits))
 
       no_numbers : (base : ℕ) → eqb (length (packed_text vs)) 0 ≡ true → ValuesBack n k vs (run_unless_empty n (packed_text vs)) base
       no_numbers base e =
           let text : run_unless_empty n (packed_text vs) ≡ [] = ap (λ b. cond b [] (run_record n (packed_text vs))) e in
           let nothing : packed_text vs ≡ [] = nil_from_length (packed_text vs) (eqb-true _ _ e) in
-          let pairs = subst (λ (x : Packed). Pairs (IsReadOf k) vs (filter_map (from_varint k) x.numbers)) (ap packed nothing ∙ packed-nil) read_pairs in
+          let pairs = subst (λ (x : Packed). Pairs (IsReadOf k) vs (filter_map (from_varint k) x.numbers)) (ap packed nothing ∙ laws.unpacked [] [] refl) read_pairs in
           record { ps = []; walks = subst (λ t. Walks t base []) (sym text) (walks_nil base); numbers = tt; pairs = pairs; sound = tt }
 
-      some_numbers : (base : ℕ) → eqb (length (packed_text vs)) 0 ≡ false → length (run_unless_empty n (packed_text vs)) < 2 ^ 64 → ValuesBack n k vs (run_unless_empty n (packed_text vs)) base
+      some_numbers : (base : ℕ) → eqb (length (packed_text vs)) 0 ≡ false → LengthFits (packed_text vs) → ValuesBack n k vs (run_unless_empty n (packed_text vs)) base
       some_numbers base e short =
           let text : run_unless_empty n (packed_text vs) ≡ run_record n (packed_text vs) = ap (λ b. cond b [] (run_record n (packed_text vs))) e in
           let p = run_piece base n (packed_text vs) in
@@ -151,17 +152,17 @@ module _ (k : Kind) where
           append-nil (values_of k p) ∙ ap (λ t. cond t (filter_map (from_varint k) (packed (packed_text vs)).numbers) (filter_map (from_bytes k base) (packed_text vs ∷ []))) is in
           record {
             ps = p ∷ [];
-            walks = subst (λ t. Walks t base (p ∷ [])) (sym text) (run_walks base n (packed_text vs) num.first num.last (run_short n (packed_text vs) (subst (λ t. length t < 2 ^ 64) text short)));
+            walks = subst (λ t. Walks t base (p ∷ [])) (sym text) (run_walks laws base n (packed_text vs) num.first num.last short);
             numbers = (refl, tt);
             pairs = subst (Pairs (IsReadOf k) vs) (sym values_are) read_pairs;
             sound = (
               ap (λ t. cond t (failed_at base (packed (packed_text vs)).failed) (text_faults k base (packed_text vs))) is
-                  ∙ ap (λ (x : Packed). failed_at base x.failed) (packed_back code vs (all_small vs fits)),
+                  ∙ ap (λ (x : Packed). failed_at base x.failed) (packed_back laws code vs (all_small vs fits)),
               tt,
             );
           }
 
-      numbers_back : (base : ℕ) → length (run_unless_empty n (packed_text vs)) < 2 ^ 64 → ValuesBack n k vs (run_unless_empty n (packed_text vs)) base
+      numbers_back : (base : ℕ) → LengthFits (packed_text vs) → ValuesBack n k vs (run_unless_empty n (packed_text vs)) base
       numbers_back base short = by (eqb (length (packed_text vs)) 0) refl
         where
           by : (b : Bool) → eqb (length (packed_text vs)) 0 ≡ b → ValuesBack n k vs (run_unless_empty n (packed_text vs)) base
@@ -172,22 +173,22 @@ flag_code : (b : Bool) → CodeBack Flag (λ b. from_bool b) b
 flag_code true = record { small = omega arith; read = true; read_is = refl; means = record { value = refl; clean = refl } }
 flag_code false = record { small = omega arith; read = false; read_is = refl; means = record { value = refl; clean = refl } }
 
-values_back : (n : ℕ) (num : IsNumber n) (k : Kind) (vs : List (Plain k)) (base : ℕ) → AllByRecursion (Fits k) vs → length (repeated_records n k vs) < 2 ^ 64 → ValuesBack n k vs (repeated_records n k vs) base
-values_back n num Id vs base fits short = runs_back Id refl n num vs base fits short
-values_back n num OptionalId vs base fits short = runs_back OptionalId refl n num vs base fits short
-values_back n num Text vs base fits short = runs_back Text refl n num vs base fits short
-values_back n num Blob vs base fits short = runs_back Blob refl n num vs base fits short
-values_back n num Unsigned64 vs base fits short =
-    numbers_back Unsigned64 refl n num (λ m. m) (λ m h. record { small = h; read = m; read_is = refl; means = record { value = refl; clean = refl } }) vs fits base short
-values_back n num Signed64 vs base fits short =
-    numbers_back Signed64 refl n num (λ z. signed_varint z)
+values_back : (laws : ReadingLaws) (n : ℕ) (num : IsNumber n) (k : Kind) (vs : List (Plain k)) (base : ℕ) → AllByRecursion (Fits k) vs → repeated_lengths k vs → ValuesBack n k vs (repeated_records n k vs) base
+values_back laws n num Id vs base fits short = runs_back Id laws refl n num vs base fits short
+values_back laws n num OptionalId vs base fits short = runs_back OptionalId laws refl n num vs base fits short
+values_back laws n num Text vs base fits short = runs_back Text laws refl n num vs base fits short
+values_back laws n num Blob vs base fits short = runs_back Blob laws refl n num vs base fits short
+values_back laws n num Unsigned64 vs base fits short =
+    numbers_back Unsigned64 laws refl n num (λ m. m) (λ m h. record { small = h; read = m; read_is = refl; means = record { value = refl; clean = refl } }) vs fits base short
+values_back laws n num Signed64 vs base fits short =
+    numbers_back Signed64 laws refl n num (λ z. signed_varint z)
     (λ z h. record { small = signed_fits z h; read = cast_signed w64 (signed_varint z); read_is = refl; means = record { value = signed64_back z h; clean = refl } }) vs fits base short
-values_back n num Unsigned32 vs base fits short =
-    numbers_back Unsigned32 refl n num (λ m. m) (λ m h. record { small = omega (arith, h); read = low32 m; read_is = refl; means = record { value = omega (arith, h); clean = refl } }) vs fits base short
-values_back n num Signed32 vs base fits short =
-    numbers_back Signed32 refl n num (λ z. signed_varint z)
+values_back laws n num Unsigned32 vs base fits short =
+    numbers_back Unsigned32 laws refl n num (λ m. m) (λ m h. record { small = omega (arith, h); read = low32 m; read_is = refl; means = record { value = omega (arith, h); clean = refl } }) vs fits base short
+values_back laws n num Signed32 vs base fits short =
+    numbers_back Signed32 laws refl n num (λ z. signed_varint z)
     (λ z h. record { small = signed_fits z (signed32_fits z h); read = cast_signed w32 (low32 (signed_varint z)); read_is = refl; means = record { value = signed32_back z h; clean = refl } }) vs fits base short
-values_back n num Flag vs base fits short = numbers_back Flag refl n num (λ b. from_bool b) (λ b h. flag_code b) vs fits base short
+values_back laws n num Flag vs base fits short = numbers_back Flag laws refl n num (λ b. from_bool b) (λ b h. flag_code b) vs fits base short
 
-pub repeated_back : (n : ℕ) (num : IsNumber n) (k : Kind) (vs : List (Plain k)) (base : ℕ) → AllByRecursion (Fits k) vs → length (repeated_records n k vs) < 2 ^ 64 → FieldBack (repeated n k) vs base
-repeated_back n num k vs base fits short = field_of_values n k vs base (values_back n num k vs base fits short)
+pub repeated_back : (laws : ReadingLaws) (n : ℕ) (num : IsNumber n) (k : Kind) (vs : List (Plain k)) (base : ℕ) → AllByRecursion (Fits k) vs → repeated_lengths k vs → FieldBack (repeated n k) vs base
+repeated_back laws n num k vs base fits short = field_of_values n k vs base (values_back laws n num k vs base fits short)

@@ -28,15 +28,12 @@ use Rattle.gt_model.specs.Values.{Fields, Plain}
 use Rattle.gt_model.specs.Views.{table_fields, table_value, table_entry, label_value, edge_value, cfg_value, addr_const_fields, addr_addr_fields, expr_fields, expr_entry, symbol_value, proxy_value, code_fields, data_fields, block_value, interval_value, section_value, module_value, ir_value}
 use Rattle.gt_model.specs.Typed.{IsId, IsU64, IsI64, IsI32, typed_value, typed_expr, typed_body, typed_block, typed_interval, typed_section, typed_payload, typed_symbol, typed_aux, typed_module, typed_edge, typed_cfg, typed}
 use Rattle.gt_model.specs.Ordered.{ordered_exprs, ordered_aux, ordered_interval, ordered_section, ordered_module, ordered}
+use Rattle.gt_write.proofs.Backs.{all_two}
 use Rattle.gt_write.proofs.ReadsBack.{Spellable}
 
 all_through : {A B : Type 0} (P : A → Type 0) (Q : B → Type 0) (f : A → B) → ((a : A) → P a → Q (f a)) → (xs : List A) → AllByRecursion P xs → AllByRecursion Q (map f xs)
 all_through P Q f h [] all = tt
 all_through P Q f h (x ∷ xs) all = (h x all.0, all_through P Q f h xs all.1)
-
-all_two : {A : Type 0} (P Q : A → Type 0) (xs : List A) → AllByRecursion P xs → AllByRecursion Q xs → AllByRecursion (λ x. P x × Q x) xs
-all_two P Q [] p q = tt
-all_two P Q (x ∷ xs) p q = ((p.0, q.0), all_two P Q xs p.1 q.1)
 
 some_through : {A B : Type 0} (P : A → Type 0) (Q : B → Type 0) (f : A → B) → ((a : A) → P a → Q (f a)) → (o : Option A) → IfSome o P → IfSome (option_map f o) Q
 some_through P Q f h None p = tt

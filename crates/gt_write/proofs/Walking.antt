@@ -6,11 +6,13 @@ use Rattle.pb_wire.specs.Varint.{shortest}
 use Rattle.pb_wire.specs.declared.records.Load.TheVariants as loads
 use Rattle.pb_wire.specs.declared.records.Record.{Record}
 use Rattle.pb_wire.specs.Records.{Spells, Takes}
-use Rattle.pb_wire.proofs.Spelling.{spells_varint, spells_run}
 use Rattle.gt_read.specs.Pieces.{Piece, Number, Bytes, piece_of, Walk, walk, walk_within}
-use Rattle.gt_read.proofs.Merging.{behind}
-use Rattle.gt_read.proofs.Walks.{walk_takes}
 use Rattle.gt_write.specs.Spelling.{varint_record, run_record}
+use Rattle.gt_write.proofs.ReadingLaws.{ReadingLaws}
+
+-- the pieces before, and those of the walk
+abbrev pub behind : List Piece → Walk → Walk
+behind ps w = record { pieces = ps ++ w.pieces; broken = w.broken }
 
 -- these are the records of the bytes, whatever follows
 pub record Walks (text : List ℕ) (base : ℕ) (ps : List Piece) : Type 0 where
@@ -30,23 +32,23 @@ walks_append a b base ps qs v w = record {
       ∙ ap (λ n. behind (ps ++ qs) (walk rest n)) far;
 }
 
-walks_one : (r : Record) (text : List ℕ) (p : Piece) → Spells r text → ((rest : List ℕ) → piece_of (text ++ rest) r.place r ≡ p) → Walks text r.place (p ∷ [])
-walks_one r text p s same = record {
+walks_one : (laws : ReadingLaws) (r : Record) (text : List ℕ) (p : Piece) → Spells r text → ((rest : List ℕ) → piece_of (text ++ rest) r.place r ≡ p) → Walks text r.place (p ∷ [])
+walks_one laws r text p s same = record {
   goes = λ rest.
       let old : Ahead = record { place = r.place; bytes = text ++ rest } in
       let new : Ahead = record { place = r.place + length text; bytes = rest } in
       let t : Takes r old new = record { text = text; spelled = s; here = refl; split = refl; behind = refl } in
-      walk_takes r old new t ∙ ap (λ (q : Piece). behind (q ∷ []) (walk rest (r.place + length text))) (same rest);
+      laws.taken r old new t ∙ ap (λ (q : Piece). behind (q ∷ []) (walk rest (r.place + length text))) (same rest);
 }
 
 -- a record of a varint
 abbrev pub number_piece : ℕ → ℕ → ℕ → Piece
 number_piece place number value = record { place = place; number = number; carried = Number value }
 
-pub varint_walks : (base number value : ℕ) → 1 ≤ number → number < 2 ^ 29 → value < 2 ^ 64 → Walks (varint_record number value) base (number_piece base number value ∷ [])
-varint_walks base number value some fits value_fits =
-    walks_one (record { place = base; field = number; load = loads.Varint value }) (varint_record number value) (number_piece base number value)
-    (spells_varint base number value some (omega arith) value_fits) (λ rest. refl)
+pub varint_walks : (laws : ReadingLaws) (base number value : ℕ) → 1 ≤ number → number < 2 ^ 29 → value < 2 ^ 64 → Walks (varint_record number value) base (number_piece base number value ∷ [])
+varint_walks laws base number value some fits value_fits =
+    walks_one laws (record { place = base; field = number; load = loads.Varint value }) (varint_record number value) (number_piece base number value)
+    (laws.varint base number value some (omega arith) value_fits) (λ rest. refl)
 
 -- a record of a run
 abbrev pub run_start : ℕ → ℕ → List ℕ → ℕ
@@ -64,13 +66,13 @@ content place k s c rest =
 abbrev run_there : ℕ → ℕ → ℕ → List ℕ → List ℕ → Piece
 run_there base number start bytes text = record { place = base; number = number; carried = Bytes start (take (length bytes) (drop (start - base) text)) }
 
-pub run_walks : (base number : ℕ) (bytes : List ℕ) → 1 ≤ number → number < 2 ^ 29 → length bytes < 2 ^ 64 → Walks (run_record number bytes) base (run_piece base number bytes ∷ [])
-run_walks base number bytes some fits short =
+pub run_walks : (laws : ReadingLaws) (base number : ℕ) (bytes : List ℕ) → 1 ≤ number → number < 2 ^ 29 → length bytes < 2 ^ 64 → Walks (run_record number bytes) base (run_piece base number bytes ∷ [])
+run_walks laws base number bytes some fits short =
     let key = shortest (8 * number + 2) in
     let size = shortest (length bytes) in
     let start = run_start base number bytes in
-    walks_one (record { place = base; field = number; load = loads.Run (record { start = start; len = length bytes }) }) (run_record number bytes) (run_piece base number bytes)
-    (subst (Spells (record { place = base; field = number; load = loads.Run (record { start = start; len = length bytes }) })) (sym (append_assoc key size bytes)) (spells_run base number bytes some (omega arith) short))
+    walks_one laws (record { place = base; field = number; load = loads.Run (record { start = start; len = length bytes }) }) (run_record number bytes) (run_piece base number bytes)
+    (subst (Spells (record { place = base; field = number; load = loads.Run (record { start = start; len = length bytes }) })) (sym (append_assoc key size bytes)) (laws.run base number bytes some (omega arith) short))
     (λ rest.
     ap (λ (t : List ℕ). run_there base number start bytes (t ++ rest)) (append_assoc key size bytes)
     ∙ ap (λ (c : List ℕ). record { place = base; number = number; carried = Bytes start c }) (content base key size bytes rest))

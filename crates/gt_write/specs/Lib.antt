@@ -1,2 +1,3 @@
 pub mod Canonical
 pub mod Spelling
+pub mod Lengths

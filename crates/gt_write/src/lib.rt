@@ -13,6 +13,3 @@ mod symbols;
 mod tables;
 
 pub use file::write_file;
-
-#[cfg(test)]
-mod tests;

@@ -37,12 +37,21 @@ fn asked(words: &Seq<Text>) -> Option<&'static str> {
     }
 }
 
-/// Prints the line of an answer, and gives its status. A line that can't be written changes nothing.
-fn report(rt: &(impl Eprint + AllocGlobal), answer: &Answer) -> ExitCode {
-    let _ = match note_text(rt.alloc(), answer) {
-        Ok(note) => rt.eprintln(note.as_str()),
-        Err(AllocError) => rt.eprintln("no memory for the note"),
+/// Prints the line of an answer. Want of memory is told without asking for any, and a line that can't
+/// be written changes nothing.
+fn print_note(rt: &(impl Eprint + AllocGlobal), answer: &Answer) {
+    let _ = match answer {
+        Answer::Memory => rt.eprintln("memory"),
+        _ => match note_text(rt.alloc(), answer) {
+            Ok(note) => rt.eprintln(note.as_str()),
+            Err(AllocError) => rt.eprintln("no memory for the note"),
+        },
     };
+}
+
+/// Prints the line of an answer, and gives its status.
+fn report(rt: &(impl Eprint + AllocGlobal), answer: &Answer) -> ExitCode {
+    print_note(rt, answer);
     ExitCode::from(answer.status())
 }
 

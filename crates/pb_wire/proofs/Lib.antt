@@ -4,5 +4,5 @@ pub mod Lists
 pub mod Loop
 pub mod Steps
 pub mod Shortest
-pub mod Passing
 pub mod Spelling
+pub mod Long

@@ -1,40 +1,18 @@
 -- Records that are spelled as short as can be, for what writes them.
 use Rattle.std.proofs.Common.{◌≡◌, ℕ, ◌+◌, ◌*◌, ◌^◌, ◌<◌, ◌≤◌, List, [], ◌∷◌, ◌++◌, length, refl, sym, ap, subst, ◌∙◌, append_assoc, arith}
-use Rattle.std.specs.List.{AllByRecursion}
-use Rattle.std.specs.Int.{w32, w64, to_le_bytes}
 use Rattle.std.proofs.lemmas.List.{append-nil, length-append}
-use Rattle.std.proofs.lemmas.Nat.{from_le_bytes-to_le_bytes_4, from_le_bytes-to_le_bytes_8}
-use Rattle.pb_wire.specs.declared.records.Load.TheVariants.{Varint, Eight, Run, Four}
+use Rattle.pb_wire.specs.declared.records.Load.TheVariants.{Varint, Run}
 use Rattle.pb_wire.specs.declared.records.Record.{Record}
-use Rattle.pb_wire.specs.Varint.{Continues, IsVarint, shortest}
+use Rattle.pb_wire.specs.Varint.{shortest}
 use Rattle.pb_wire.specs.Records.{records, Spells}
 use Rattle.pb_wire.proofs.Shortest.{shortest_is}
 
-bytes_of : (bytes : List ℕ) → Continues bytes → AllByRecursion (λ b. b < 256) bytes
-bytes_of [] c = absurd c
-bytes_of (b ∷ []) c = (omega (arith, c), tt)
-bytes_of (b ∷ d ∷ bs) c = (c.1, bytes_of (d ∷ bs) c.2)
-
--- each byte of a varint is one
-pub varint_bytes : (bytes : List ℕ) (value : ℕ) → IsVarint bytes value → AllByRecursion (λ b. b < 256) bytes
-varint_bytes bytes value v = bytes_of bytes v.continues
-
-pub spells_varint : (place field value : ℕ) → 1 ≤ field → 8 * field < 2 ^ 64 → value < 2 ^ 64
+pub spells_varint : (place field value : ℕ) → 1 ≤ field → field < 2 ^ 61 → value < 2 ^ 64
     → Spells (record { place = place; field = field; load = Varint value }) (shortest (8 * field + 0) ++ shortest value)
 spells_varint place field value some fits value_fits =
     record { key = shortest (8 * field + 0); payload = shortest value; whole = refl; key_is = shortest_is (8 * field + 0) (omega arith); field = some; payload_is = shortest_is value value_fits }
 
-pub spells_eight : (place field value : ℕ) → 1 ≤ field → 8 * field + 1 < 2 ^ 64 → value < 2 ^ 64
-    → Spells (record { place = place; field = field; load = Eight value }) (shortest (8 * field + 1) ++ to_le_bytes w64 value)
-spells_eight place field value some fits value_fits =
-    record { key = shortest (8 * field + 1); payload = to_le_bytes w64 value; whole = refl; key_is = shortest_is (8 * field + 1) fits; field = some; payload_is = (refl, sym (from_le_bytes-to_le_bytes_8 value value_fits)) }
-
-pub spells_four : (place field value : ℕ) → 1 ≤ field → 8 * field + 5 < 2 ^ 64 → value < 2 ^ 32
-    → Spells (record { place = place; field = field; load = Four value }) (shortest (8 * field + 5) ++ to_le_bytes w32 value)
-spells_four place field value some fits value_fits =
-    record { key = shortest (8 * field + 5); payload = to_le_bytes w32 value; whole = refl; key_is = shortest_is (8 * field + 5) fits; field = some; payload_is = (refl, sym (from_le_bytes-to_le_bytes_4 value value_fits)) }
-
-pub spells_run : (place field : ℕ) (content : List ℕ) → 1 ≤ field → 8 * field + 2 < 2 ^ 64 → length content < 2 ^ 64
+pub spells_run : (place field : ℕ) (content : List ℕ) → 1 ≤ field → field < 2 ^ 61 → length content < 2 ^ 64
     → Spells (record { place = place; field = field; load = Run (record { start = place + length (shortest (8 * field + 2)) + length (shortest (length content)); len = length content }) })
     (shortest (8 * field + 2) ++ (shortest (length content) ++ content))
 spells_run place field content some fits content_fits =
@@ -42,7 +20,7 @@ spells_run place field content some fits content_fits =
       key = shortest (8 * field + 2);
       payload = shortest (length content) ++ content;
       whole = refl;
-      key_is = shortest_is (8 * field + 2) fits;
+      key_is = shortest_is (8 * field + 2) (omega arith);
       field = some;
       payload_is = record { size = shortest (length content); content = content; whole = refl; size_is = shortest_is (length content) content_fits; len = refl; start = refl };
     }

@@ -1,6 +1,6 @@
 -- The varint at the front of bytes, as the function and the relation have it.
 use Rattle.std.proofs.Common.{◌≡◌, ℕ, zero, suc, ◌+◌, ◌*◌, ◌%◌, ◌^◌, ◌<◌, ◌≤◌, Bool, true, false, cond, ltb, List, [], ◌∷◌, ◌++◌, length, get_or, take, Result, Ok, Err, refl, sym, ap, subst, ◌∙◌, arith, inl, inr}
-use Rattle.std.specs.Prelude.{◌⊎◌}
+use Rattle.std.specs.Prelude.{◌⊎◌, IfOk, IfErr}
 use Rattle.std.specs.List.{AllByRecursion}
 use Rattle.std.proofs.lemmas.List.{take_at}
 use Rattle.std.proofs.Math.Nat.{pow-suc, one-le-pow}
@@ -174,6 +174,15 @@ varint_found bytes found fits e =
 
 pub varint_failed : (bytes : List ℕ) (reason : WireReason) → varint_of bytes ≡ Err reason → VarintFails bytes reason
 varint_failed bytes reason e = fails_of_ten bytes reason (within_failed 9 bytes reason e)
+
+-- what the answer of a call says
+pub varint_spelled : (bytes : List ℕ) (answer : Result (ℕ × ℕ) WireReason) → AllByRecursion (λ b. b < 256) bytes → answer ≡ varint_of bytes → IfOk answer (λ found. IsVarint (take found.1 bytes) found.0)
+varint_spelled bytes (Ok found) fits e = (varint_found bytes found fits (sym e)).1
+varint_spelled bytes (Err reason) fits e = tt
+
+pub varint_missed : (bytes : List ℕ) (answer : Result (ℕ × ℕ) WireReason) → answer ≡ varint_of bytes → IfErr answer (VarintFails bytes)
+varint_missed bytes (Ok found) e = tt
+varint_missed bytes (Err reason) e = varint_failed bytes reason (sym e)
 
 pub same_varint : (a b x y : List ℕ) (m n : ℕ) → IsVarint a m → IsVarint b n → a ++ x ≡ b ++ y → (a ≡ b) × (m ≡ n)
 same_varint a b x y m n va vb e =

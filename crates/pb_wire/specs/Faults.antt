@@ -4,7 +4,7 @@ use Rattle.pb_wire.specs.declared.fault.WireFault.{WireFault}
 use Rattle.pb_wire.specs.declared.fault.WireReason.{WireReason}
 use Rattle.pb_wire.specs.declared.fault.WireReason.TheVariants.{Varint, Truncated, WireType, FieldZero}
 use Rattle.pb_wire.specs.declared.records.Record.{Record}
-use Rattle.pb_wire.specs.Varint.{IsVarint, GoOn}
+use Rattle.pb_wire.specs.Varint.{IsVarint, varints, GoOn}
 use Rattle.pb_wire.specs.Records.{records, is_wire}
 
 -- why no varint begins the bytes: ten bytes have no end or the tenth is above 1, or the bytes end first
@@ -13,6 +13,15 @@ VarintFails bytes Varint = (10 ≤ length bytes) × GoOn (take 9 bytes) × (1 < 
 VarintFails bytes Truncated = (length bytes < 10) × GoOn bytes
 VarintFails bytes WireType = ⊥
 VarintFails bytes FieldZero = ⊥
+
+-- the bytes are varints of the numbers, and then others that no varint begins, for the reason
+pub record varints_fault (bytes numbers : List ℕ) (reason : WireReason) : Type 0 where
+  pub front : List ℕ
+  pub rest : List ℕ
+  pub whole : bytes ≡ front ++ rest
+  pub before : varints front numbers
+  pub more : rest ≢ []
+  pub fails : VarintFails rest reason
 
 -- a varint of the value begins the bytes, and the rest follows
 pub record Begins (value : ℕ) (bytes rest : List ℕ) : Type 0 where

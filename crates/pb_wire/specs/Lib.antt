@@ -3,4 +3,3 @@ pub mod Varint
 pub mod Records
 pub mod Faults
 pub mod Reading
-pub mod Passed

@@ -1,5 +1,5 @@
 -- Varints: numbers below 2 ^ 64 in groups of seven bits, the low group first.
-use Rattle.std.specs.Prelude.{◌≡◌, ℕ, zero, suc, ◌+◌, ◌*◌, ◌/◌, ◌%◌, ◌<◌, ◌≤◌, nat_lt, if◌then◌else◌, List, [], ◌∷◌, length, slice_index}
+use Rattle.std.specs.Prelude.{◌≡◌, ℕ, zero, suc, ◌+◌, ◌*◌, ◌/◌, ◌%◌, ◌<◌, ◌≤◌, nat_lt, if◌then◌else◌, List, [], ◌∷◌, ◌++◌, length, slice_index}
 use Rattle.std.specs.List.{AllByRecursion}
 
 -- the number in the low seven bits of each byte, the low group first
@@ -19,6 +19,11 @@ pub record IsVarint (bytes : List ℕ) (value : ℕ) : Type 0 where
   pub short : length bytes ≤ 10
   pub tenth : slice_index bytes 9 ≤ 1
   pub value_is : value ≡ groups bytes
+
+-- the bytes are varints of the numbers, one after another
+abbrev pub varints : List ℕ → List ℕ → Type 0
+varints bytes [] = bytes ≡ []
+varints bytes (n ∷ ns) = (text : List ℕ) × (rest : List ℕ) × (bytes ≡ text ++ rest) × IsVarint text n × varints rest ns
 
 -- each byte has its high bit set, so a varint doesn't end in them
 abbrev pub GoOn : List ℕ → Type 0

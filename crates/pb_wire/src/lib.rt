@@ -14,6 +14,3 @@ pub use fault::{WireFault, WireReason};
 pub use put::{put_bytes, put_key, put_varint};
 pub use reading::read_varint;
 pub use records::{Load, Record, Span};
-
-#[cfg(test)]
-mod tests;

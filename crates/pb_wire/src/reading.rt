@@ -1,7 +1,8 @@
 ghost use Rattle.std.specs.Prelude.{◌≡◌, ◌+◌, ◌-◌, ◌^◌, ◌≤◌, length, take, IfOk, IfErr};
 ghost use Rattle.pb_wire.specs.Reading.{varint_of, payload_of, record_of, eight_load, four_load, run_load};
 ghost use Rattle.pb_wire.specs.Records.{Spells};
-ghost use Rattle.pb_wire.specs.Faults.{Fails};
+ghost use Rattle.pb_wire.specs.Varint.{IsVarint};
+ghost use Rattle.pb_wire.specs.Faults.{Fails, VarintFails};
 
 use crate::fault::WireReason;
 use crate::records::{Load, Record, Span};
@@ -9,8 +10,8 @@ use crate::records::{Load, Record, Span};
 /// The index of the last byte that a varint may have.
 const LAST: usize = 9;
 
-/// The varint at the front, and how many bytes it has. It takes no memory.
-pub fn read_varint(bytes: &[u8]) -> Result<(u64, usize), WireReason>
+/// Reads group after group of seven bits.
+fn read_groups(bytes: &[u8]) -> Result<(u64, usize), WireReason>
     ensures value { result ≡ varint_of bytes.now }
     ensures within { IfOk result (λ found. found.1 ≤ length bytes.now) }
 {
@@ -25,6 +26,16 @@ pub fn read_varint(bytes: &[u8]) -> Result<(u64, usize), WireReason>
         }
     }
     Err(WireReason::Truncated)
+}
+
+/// The varint at the front, and how many bytes it has. It takes no memory.
+pub fn read_varint(bytes: &[u8]) -> Result<(u64, usize), WireReason>
+    ensures value { result ≡ varint_of bytes.now }
+    ensures within { IfOk result (λ found. found.1 ≤ length bytes.now) }
+    ensures spelled { IfOk result (λ found. IsVarint (take found.1 bytes.now) found.0) }
+    ensures fails { IfErr result (VarintFails bytes.now) }
+{
+    read_groups(bytes)
 }
 
 /// Eight bytes as a load.

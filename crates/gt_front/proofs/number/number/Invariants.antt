@@ -1,7 +1,7 @@
 use Rattle.std.proofs.Common.{◌≡◌, ◌+◌, ◌≤◌, min, drop}
 use Rattle.std.specs.Prelude.{fold}
 use Rattle.std.specs.List.{list_all}
-use Rattle.gt_front.specs.Words.{is_digit, decimal_value}
+use Rattle.gt_front.specs.Numbers.{is_digit, decimal_value}
 use Rattle.gt_front.proofs.Numbers.{with_digit}
 use Rattle.gt_front.proofs.number.number.Given as goal
 

@@ -1,92 +1,42 @@
-use Rattle.std.proofs.Common.{ℕ, List, subst, drop}
-use Rattle.gr_base.specs.Desk.{ToldBoth}
-use Rattle.gt_front.specs.Inputs.{InputFile}
-use Rattle.gt_front.specs.Causes.{Outcomes, ReadFaultCause, TooLargeCause, WriteFaultCause, IsOwn, Kept}
-use Rattle.gt_front.specs.declared.words.WordName.TheVariants as names
-use Rattle.gt_front.specs.Outcome.{file_of}
-use Rattle.gt_front.specs.Asks.{Asks}
-use Rattle.gt_front.specs.declared.words.Request.{Request}
-use Rattle.gt_front.specs.Recode.{RecodeOf}
-use Rattle.gt_front.specs.Run.{RunOf}
-use Rattle.std.specs.Option.{option_map}
-use Rattle.gt_front.proofs.Complete.{is_complete}
-use Rattle.gt_front.proofs.Served.{recode_outcome, recode_inputs, recode_output, run_outcome, run_inputs, run_output, steps_small}
+use Rattle.std.proofs.Common.{ℕ, List, [], subst, ap, ◌≡◌}
+use Rattle.gt_front.specs.declared.answer.Answer.TheVariants as answers
+use Rattle.gt_front.specs.Picked.{picked, picked_view}
+use Rattle.gt_front.specs.Outcome.{Outcome, out_of}
+use Rattle.gt_front.specs.Words.{WordsOk, Usage}
+use Rattle.gt_front.proofs.Serving.{served_words, usage_kept, usage_nothing}
+use Rattle.gt_front.proofs.Usages.{ok_no_usage, one_usage}
 use Rattle.gt_front.proofs.serve.serve_words.Goals as goal
 
-pub returns-in-Ok-Recode-clause-read_fault : goal.returns-in-Ok-Recode-clause-read_fault
-returns-in-Ok-Recode-clause-read_fault g c = λ ok.
-    subst (λ (inputs : List InputFile). ReadFaultCause inputs (g.D.Desk.files c.args.desk.now) (g.D.Desk.steady c.args.desk.now)
-    (g.D.Desk.read_faults c.args.desk.now) (g.D.Desk.read_faults c.recode.new.desk) c.recode.result)
-    (recode_inputs _ _ c.in-Ok-Recode.words (subst (λ (r : Request). Asks c.as_slice.result.now r) c.in-Ok-Recode.field-0-is c.in-Ok-Recode.ensures.asked) c.as_slice.ensures) c.recode.ensures.read_fault
+pub returns-in-Ok : goal.returns-in-Ok
+returns-in-Ok g c =
+    let ok = subst (λ (w : List (List ℕ)). WordsOk w) c.as_slice.ensures c.in-Ok.ensures.ok in
+    let all = served_words c.as_slice.result.now c.args.words.now (picked_view c.in-Ok.asked) _ _ c.as_slice.ensures c.in-Ok.ensures.picked c.serve_picked.ensures in
+    record {
+      usage = λ index. ((λ e. absurd (all.served index e)), (λ bad. absurd (ok_no_usage c.args.words.now index ok bad)));
+      read_fault = λ fine. all.read_fault;
+      too_large = λ fine. all.too_large;
+      write_fault = λ fine. all.write_fault;
+      own = λ fine. all.own;
+      complete = λ fine. all.complete;
+      assured = all.assured;
+      kept = all.kept;
+      nothing = all.nothing;
+    }
 
-pub returns-in-Ok-Recode-clause-too_large : goal.returns-in-Ok-Recode-clause-too_large
-returns-in-Ok-Recode-clause-too_large g c = λ ok.
-    subst (λ (inputs : List InputFile). TooLargeCause inputs (g.D.Desk.files c.args.desk.now) (g.D.Desk.steady c.args.desk.now)
-    (g.D.Desk.taken c.args.desk.now) (g.D.Desk.taken c.recode.new.desk) c.recode.result)
-    (recode_inputs _ _ c.in-Ok-Recode.words (subst (λ (r : Request). Asks c.as_slice.result.now r) c.in-Ok-Recode.field-0-is c.in-Ok-Recode.ensures.asked) c.as_slice.ensures) c.recode.ensures.too_large
-
-pub returns-in-Ok-Recode-clause-write_fault : goal.returns-in-Ok-Recode-clause-write_fault
-returns-in-Ok-Recode-clause-write_fault g c = λ ok.
-    subst (λ (own : Outcomes). WriteFaultCause own (g.D.Desk.files c.args.desk.now) (g.D.Desk.steady c.args.desk.now)
-    (g.D.Desk.write_faults c.args.desk.now) (g.D.Desk.write_faults c.recode.new.desk) c.recode.result)
-    (recode_outcome _ _ c.in-Ok-Recode.words (subst (λ (r : Request). Asks c.as_slice.result.now r) c.in-Ok-Recode.field-0-is c.in-Ok-Recode.ensures.asked) c.as_slice.ensures) c.recode.ensures.write_fault
-
-pub returns-in-Ok-Recode-clause-own : goal.returns-in-Ok-Recode-clause-own
-returns-in-Ok-Recode-clause-own g c = λ ok.
-    subst (λ (own : Outcomes). IsOwn own (g.D.Desk.files c.args.desk.now) c.recode.result)
-    (recode_outcome _ _ c.in-Ok-Recode.words (subst (λ (r : Request). Asks c.as_slice.result.now r) c.in-Ok-Recode.field-0-is c.in-Ok-Recode.ensures.asked) c.as_slice.ensures) c.recode.ensures.own
-
-pub returns-in-Ok-Recode-clause-complete : goal.returns-in-Ok-Recode-clause-complete
-returns-in-Ok-Recode-clause-complete g c = λ ok.
-    is_complete _ _ _ _ _ _ _ _ _ _ _
-    (returns-in-Ok-Recode-clause-read_fault g c ok) (returns-in-Ok-Recode-clause-too_large g c ok) (returns-in-Ok-Recode-clause-write_fault g c ok) (returns-in-Ok-Recode-clause-own g c ok)
-
-pub returns-in-Ok-Recode-clause-kept : goal.returns-in-Ok-Recode-clause-kept
-returns-in-Ok-Recode-clause-kept g c =
-    subst (λ (own : Outcomes). ToldBoth (g.D.Desk.files c.args.desk.now) (g.D.Desk.files c.recode.new.desk)
-    (Kept own (file_of names.Out c.args.words.now) c.recode.result))
-    (recode_outcome _ _ c.in-Ok-Recode.words (subst (λ (r : Request). Asks c.as_slice.result.now r) c.in-Ok-Recode.field-0-is c.in-Ok-Recode.ensures.asked) c.as_slice.ensures)
-    (subst (λ (name : List ℕ). ToldBoth (g.D.Desk.files c.args.desk.now) (g.D.Desk.files c.recode.new.desk) (Kept (RecodeOf c.in-Ok-Recode.words.input.now) name c.recode.result))
-    (recode_output _ _ c.in-Ok-Recode.words (subst (λ (r : Request). Asks c.as_slice.result.now r) c.in-Ok-Recode.field-0-is c.in-Ok-Recode.ensures.asked) c.as_slice.ensures) c.recode.ensures.kept)
-
-pub returns-in-Ok-Run-clause-read_fault : goal.returns-in-Ok-Run-clause-read_fault
-returns-in-Ok-Run-clause-read_fault g c = λ ok.
-    subst (λ (inputs : List InputFile). ReadFaultCause inputs (g.D.Desk.files c.args.desk.now) (g.D.Desk.steady c.args.desk.now)
-    (g.D.Desk.read_faults c.args.desk.now) (g.D.Desk.read_faults c.run.new.desk) c.run.result)
-    (run_inputs _ _ c.in-Ok-Run.words (subst (λ (r : Request). Asks c.as_slice.result.now r) c.in-Ok-Run.field-0-is c.in-Ok-Run.ensures.asked) c.as_slice.ensures) c.run.ensures.read_fault
-
-pub returns-in-Ok-Run-clause-too_large : goal.returns-in-Ok-Run-clause-too_large
-returns-in-Ok-Run-clause-too_large g c = λ ok.
-    subst (λ (inputs : List InputFile). TooLargeCause inputs (g.D.Desk.files c.args.desk.now) (g.D.Desk.steady c.args.desk.now)
-    (g.D.Desk.taken c.args.desk.now) (g.D.Desk.taken c.run.new.desk) c.run.result)
-    (run_inputs _ _ c.in-Ok-Run.words (subst (λ (r : Request). Asks c.as_slice.result.now r) c.in-Ok-Run.field-0-is c.in-Ok-Run.ensures.asked) c.as_slice.ensures) c.run.ensures.too_large
-
-pub returns-in-Ok-Run-clause-write_fault : goal.returns-in-Ok-Run-clause-write_fault
-returns-in-Ok-Run-clause-write_fault g c = λ ok.
-    subst (λ (own : Outcomes). WriteFaultCause own (g.D.Desk.files c.args.desk.now) (g.D.Desk.steady c.args.desk.now)
-    (g.D.Desk.write_faults c.args.desk.now) (g.D.Desk.write_faults c.run.new.desk) c.run.result)
-    (run_outcome _ _ c.in-Ok-Run.words (subst (λ (r : Request). Asks c.as_slice.result.now r) c.in-Ok-Run.field-0-is c.in-Ok-Run.ensures.asked) c.as_slice.ensures) c.run.ensures.write_fault
-
-pub returns-in-Ok-Run-clause-own : goal.returns-in-Ok-Run-clause-own
-returns-in-Ok-Run-clause-own g c = λ ok.
-    subst (λ (own : Outcomes). IsOwn own (g.D.Desk.files c.args.desk.now) c.run.result)
-    (run_outcome _ _ c.in-Ok-Run.words (subst (λ (r : Request). Asks c.as_slice.result.now r) c.in-Ok-Run.field-0-is c.in-Ok-Run.ensures.asked) c.as_slice.ensures) c.run.ensures.own
-
-pub returns-in-Ok-Run-clause-complete : goal.returns-in-Ok-Run-clause-complete
-returns-in-Ok-Run-clause-complete g c = λ ok.
-    is_complete _ _ _ _ _ _ _ _ _ _ _
-    (returns-in-Ok-Run-clause-read_fault g c ok) (returns-in-Ok-Run-clause-too_large g c ok) (returns-in-Ok-Run-clause-write_fault g c ok) (returns-in-Ok-Run-clause-own g c ok)
-
-pub returns-in-Ok-Run-clause-kept : goal.returns-in-Ok-Run-clause-kept
-returns-in-Ok-Run-clause-kept g c =
-    subst (λ (own : Outcomes). ToldBoth (g.D.Desk.files c.args.desk.now) (g.D.Desk.files c.run.new.desk)
-    (Kept own (file_of names.Out c.args.words.now) c.run.result))
-    (run_outcome _ _ c.in-Ok-Run.words (subst (λ (r : Request). Asks c.as_slice.result.now r) c.in-Ok-Run.field-0-is c.in-Ok-Run.ensures.asked) c.as_slice.ensures)
-    (subst (λ (name : List ℕ). ToldBoth (g.D.Desk.files c.args.desk.now) (g.D.Desk.files c.run.new.desk) (Kept (RunOf c.in-Ok-Run.words.image.now (option_map (λ name. name.now) c.in-Ok-Run.words.input) c.in-Ok-Run.words.steps) name c.run.result))
-    (run_output _ _ c.in-Ok-Run.words (subst (λ (r : Request). Asks c.as_slice.result.now r) c.in-Ok-Run.field-0-is c.in-Ok-Run.ensures.asked) c.as_slice.ensures) c.run.ensures.kept)
-
-pub run-requires : goal.run-requires
-run-requires g c =
-    let asked = subst (λ (r : Request). Asks c.as_slice.result.now r) c.in-Ok-Run.field-0-is c.in-Ok-Run.ensures.asked in
-    let small = steps_small (drop 1 c.as_slice.result.now) in
-    rw asked.gives.3 small
+pub returns-in-Err : goal.returns-in-Err
+returns-in-Err g c =
+    let bad = subst (λ (w : List (List ℕ)). Usage w c.in-Err.index) c.as_slice.ensures c.in-Err.ensures.usage in
+    record {
+      usage = λ index. (
+        (λ e. let same : c.in-Err.index ≡ index = cc in subst (λ (i : ℕ). Usage c.args.words.now i) same bad),
+        (λ other. ap answers.Usage (one_usage c.args.words.now c.in-Err.index index bad other)),
+      );
+      read_fault = λ ok. absurd (ok_no_usage c.args.words.now c.in-Err.index ok bad);
+      too_large = λ ok. absurd (ok_no_usage c.args.words.now c.in-Err.index ok bad);
+      write_fault = λ ok. absurd (ok_no_usage c.args.words.now c.in-Err.index ok bad);
+      own = λ ok. absurd (ok_no_usage c.args.words.now c.in-Err.index ok bad);
+      complete = λ ok. absurd (ok_no_usage c.args.words.now c.in-Err.index ok bad);
+      assured = λ text e. absurd cc;
+      kept = usage_kept (g.D.Desk.files c.args.desk.now) (Outcome (picked c.args.words.now) []) (out_of (picked c.args.words.now)) c.in-Err.index;
+      nothing = λ none. usage_nothing (g.D.Desk.files c.args.desk.now) c.in-Err.index;
+    }

@@ -1,7 +1,7 @@
 use Rattle.std.proofs.Common.{◌≡◌, ◌++◌, map}
 use Rattle.gt_model.specs.Views.{expr_entry}
-use Rattle.gt_read.specs.DraftViews.{expr_held, expr_finished}
-use Rattle.gt_read.specs.Drafts.{map_fault}
+use Rattle.gt_read.specs.Drafts.Views.{expr_held, expr_finished}
+use Rattle.gt_read.specs.Drafts.Draft.{map_fault}
 use Rattle.gt_read.specs.Identifiers.{earlier}
 use Rattle.gt_read.proofs.exprs.finish_exprs.Given as goal
 

@@ -1,6 +1,6 @@
 use Rattle.gt_model.specs.Schema.{NumberKey, expr_rows}
 use Rattle.gt_read.specs.Kinds.{Run}
-use Rattle.gt_read.specs.DraftViews.{expr_entry_draft, expr_entry_parts}
+use Rattle.gt_read.specs.Drafts.Views.{expr_entry_draft, expr_entry_parts}
 use Rattle.gt_read.proofs.EntryLemmas.{entry_read}
 use Rattle.gt_read.proofs.Inserting.{expr_inserted}
 use Rattle.gt_read.proofs.exprs.take_expr.Goals as goal

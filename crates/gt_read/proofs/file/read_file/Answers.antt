@@ -1,10 +1,13 @@
-use Rattle.std.proofs.Common.{◌<◌, get_or, rules, sym, subst, arith}
+use Rattle.std.proofs.Common.{sym, subst, arith}
 use Rattle.std.proofs.lemmas.Result.{err_from_is_err_and}
-use Rattle.gt_read.specs.Bodies.{IsBody}
+use Rattle.gt_read.specs.Drafts.Bodies.{IsBody}
 use Rattle.gt_read.specs.Reading.{IsFault}
-use Rattle.gt_read.specs.File.{body_fault, version_byte}
-use Rattle.gt_read.proofs.FileLemmas.{long_enough, prefix_first, id_last, is_file, body_ordered, version_small, fault_passed, behind}
+use Rattle.gt_model.specs.Typed.{AreBytes}
+use Rattle.gt_read.specs.File.{file, body_fault, version_byte}
+use Rattle.gt_read.proofs.FileLemmas.{long_enough, prefix_first, id_last, is_file, fault_passed, behind}
+use Rattle.gt_read.proofs.GoodPieces.{are_bytes}
 use Rattle.gt_read.proofs.file.read_file.Goals as goal
+use Rattle.gt_read.proofs.file.read_file.Goals.{In-None}
 
 pub returns-in-Some-clause-fault : goal.returns-in-Some-clause-fault
 returns-in-Some-clause-fault c = prefix_first c.args.bytes.now _ (sym c.in-Some.ensures)
@@ -30,16 +33,28 @@ returns-in-Some-fault-clause-fault c =
     let body = subst (λ b. IsBody (version_byte c.args.bytes.now) b c.in_ok-ir.ir c.in_ok-ir.fault) (behind c.args.bytes.now long) c.in_ok-ir.ensures.found in
     id_last c.args.bytes.now c.in_ok-ir.ir c.in-Some-fault.fault (sym c.in_default.ensures) (rw (sym c.in-Some-fault.is) body)
 
-pub returns-in-None-clause-found : goal.returns-in-None-clause-found
-returns-in-None-clause-found c =
+-- the file that the bytes are
+found : (c : In-None) → file c.args.bytes.now c.in_ok-ir.ir
+found c =
     let long = long_enough c.args.bytes.now (sym c.in_default.ensures) in
     let body = subst (λ b. IsBody (version_byte c.args.bytes.now) b c.in_ok-ir.ir c.in_ok-ir.fault) (behind c.args.bytes.now long) c.in_ok-ir.ensures.found in
     is_file c.args.bytes.now c.in_ok-ir.ir (sym c.in_default.ensures) (rw (sym c.in-None.is) body)
 
-pub returns-in-None-clause-version : goal.returns-in-None-clause-version
-returns-in-None-clause-version c =
-    let fits : get_or c.args.bytes.now 7 0 < 256 = search rules in
-    version_small _ _ c.in_ok-ir.ir _ c.in_ok-ir.ensures.found fits
+bytes_fit : (c : In-None) → AreBytes c.args.bytes.now
+bytes_fit c = are_bytes c.args.bytes.now (λ i. omega (arith, c.type_inv.bytes i))
+
+pub returns-in-None-clause-found : goal.returns-in-None-clause-found
+returns-in-None-clause-found c = found (goal.at.returns-in-None-clause-found c).In-None
+
+pub returns-in-None-clause-typed : goal.returns-in-None-clause-typed
+returns-in-None-clause-typed c =
+    let i = (goal.at.returns-in-None-clause-typed c).In-None in
+    c.a_file_is_typed.ensures.typed c.args.bytes.now c.in_ok-ir.ir (bytes_fit i) (found i)
 
 pub returns-in-None-clause-order : goal.returns-in-None-clause-order
-returns-in-None-clause-order c = body_ordered _ _ c.in_ok-ir.ir _ c.in_ok-ir.ensures.found
+returns-in-None-clause-order c = c.a_file_is_typed.ensures.order c.args.bytes.now c.in_ok-ir.ir (found (goal.at.returns-in-None-clause-order c).In-None)
+
+pub returns-in-None-clause-version : goal.returns-in-None-clause-version
+returns-in-None-clause-version c =
+    let i = (goal.at.returns-in-None-clause-version c).In-None in
+    c.a_file_is_typed.ensures.version c.args.bytes.now c.in_ok-ir.ir (bytes_fit i) (found i)

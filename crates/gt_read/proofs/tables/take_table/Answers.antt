@@ -1,6 +1,6 @@
 use Rattle.gt_model.specs.Schema.{TextKey, table_rows}
 use Rattle.gt_read.specs.Kinds.{Run}
-use Rattle.gt_read.specs.DraftViews.{table_entry_draft, table_entry_parts}
+use Rattle.gt_read.specs.Drafts.Views.{table_entry_draft, table_entry_parts}
 use Rattle.gt_read.proofs.EntryLemmas.{entry_read}
 use Rattle.gt_read.proofs.Inserting.{table_inserted}
 use Rattle.gt_read.proofs.tables.take_table.Goals as goal

@@ -1,8 +1,8 @@
 use Rattle.std.proofs.Common.{refl}
 use Rattle.gt_model.specs.Schema.{block_rows}
 use Rattle.gt_model.specs.Views.{block_value}
-use Rattle.gt_read.specs.DraftViews.{block_draft}
-use Rattle.gt_read.specs.Drafts.{finished, worst}
+use Rattle.gt_read.specs.Drafts.Views.{block_draft}
+use Rattle.gt_read.specs.Drafts.Draft.{finished, worst}
 use Rattle.gt_read.proofs.DraftLemmas.{earlier-none}
 use Rattle.gt_read.proofs.blocks.BlockDraftMessage.finish.Goals as goal
 

@@ -1,8 +1,8 @@
 use Rattle.std.proofs.Common.{refl}
 use Rattle.gt_model.specs.Schema.{code_rows}
 use Rattle.gt_model.specs.Views.{code_fields}
-use Rattle.gt_read.specs.DraftViews.{code_draft}
-use Rattle.gt_read.specs.Drafts.{finished, worst}
+use Rattle.gt_read.specs.Drafts.Views.{code_draft}
+use Rattle.gt_read.specs.Drafts.Draft.{finished, worst}
 use Rattle.gt_read.proofs.DraftLemmas.{earlier-none}
 use Rattle.gt_read.proofs.blocks.CodeDraftMessage.finish.Goals as goal
 

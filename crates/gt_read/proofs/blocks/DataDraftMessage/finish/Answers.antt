@@ -1,8 +1,8 @@
 use Rattle.std.proofs.Common.{refl}
 use Rattle.gt_model.specs.Schema.{data_rows}
 use Rattle.gt_model.specs.Views.{data_fields}
-use Rattle.gt_read.specs.DraftViews.{data_draft}
-use Rattle.gt_read.specs.Drafts.{finished, worst}
+use Rattle.gt_read.specs.Drafts.Views.{data_draft}
+use Rattle.gt_read.specs.Drafts.Draft.{finished, worst}
 use Rattle.gt_read.proofs.DraftLemmas.{earlier-none}
 use Rattle.gt_read.proofs.blocks.DataDraftMessage.finish.Goals as goal
 

@@ -1,8 +1,8 @@
 use Rattle.std.proofs.Common.{refl}
 use Rattle.gt_model.specs.Schema.{cfg_rows}
 use Rattle.gt_model.specs.Views.{cfg_value}
-use Rattle.gt_read.specs.DraftViews.{cfg_draft}
-use Rattle.gt_read.specs.Drafts.{finished, worst}
+use Rattle.gt_read.specs.Drafts.Views.{cfg_draft}
+use Rattle.gt_read.specs.Drafts.Draft.{finished, worst}
 use Rattle.gt_read.proofs.DraftLemmas.{earlier-none}
 use Rattle.gt_read.proofs.edges.CfgDraftMessage.finish.Goals as goal
 

@@ -1,7 +1,7 @@
 use Rattle.std.proofs.Common.{refl}
 use Rattle.gt_model.specs.Schema.{cfg_rows}
-use Rattle.gt_read.specs.DraftViews.{cfg_draft}
-use Rattle.gt_read.specs.Drafts.{drafted}
+use Rattle.gt_read.specs.Drafts.Views.{cfg_draft}
+use Rattle.gt_read.specs.Drafts.Draft.{drafted}
 use Rattle.gt_read.specs.Meaning.{meaning}
 use Rattle.gt_read.proofs.edges.CfgDraftMessage.start.Goals as goal
 

@@ -1,8 +1,8 @@
 use Rattle.std.proofs.Common.{refl}
 use Rattle.gt_model.specs.Schema.{edge_rows, label_rows}
 use Rattle.gt_model.specs.Views.{label_value, edge_value}
-use Rattle.gt_read.specs.DraftViews.{label_draft, edge_draft}
-use Rattle.gt_read.specs.Drafts.{finished, worst}
+use Rattle.gt_read.specs.Drafts.Views.{label_draft, edge_draft}
+use Rattle.gt_read.specs.Drafts.Draft.{finished, worst}
 use Rattle.gt_read.proofs.DraftLemmas.{finishes_if, earlier-none}
 use Rattle.gt_read.proofs.edges.EdgeDraftMessage.finish.Goals as goal
 

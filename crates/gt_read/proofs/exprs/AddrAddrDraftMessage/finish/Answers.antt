@@ -4,8 +4,8 @@ use mir.Syntax.{w64}
 use mir.Val.{SFits}
 use Rattle.gt_model.specs.Schema.{addr_addr_rows}
 use Rattle.gt_model.specs.Views.{addr_addr_fields}
-use Rattle.gt_read.specs.DraftViews.{addr_addr_draft}
-use Rattle.gt_read.specs.Drafts.{finished, worst}
+use Rattle.gt_read.specs.Drafts.Views.{addr_addr_draft}
+use Rattle.gt_read.specs.Drafts.Draft.{finished, worst}
 use Rattle.gt_read.proofs.DraftLemmas.{earlier-none}
 use Rattle.gt_read.proofs.exprs.AddrAddrDraftMessage.finish.Goals as goal
 

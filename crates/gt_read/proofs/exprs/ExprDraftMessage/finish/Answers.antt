@@ -1,8 +1,8 @@
 use Rattle.std.proofs.Common.{refl}
 use Rattle.gt_model.specs.Schema.{expr_rows}
 use Rattle.gt_model.specs.Views.{expr_fields}
-use Rattle.gt_read.specs.DraftViews.{expr_draft}
-use Rattle.gt_read.specs.Drafts.{finished, worst}
+use Rattle.gt_read.specs.Drafts.Views.{expr_draft}
+use Rattle.gt_read.specs.Drafts.Draft.{finished, worst}
 use Rattle.gt_read.proofs.DraftLemmas.{earlier-none}
 use Rattle.gt_read.proofs.exprs.ExprDraftMessage.finish.Goals as goal
 

@@ -1,8 +1,8 @@
 use Rattle.std.proofs.Common.{refl}
 use Rattle.gt_model.specs.Schema.{expr_rows}
 use Rattle.gt_model.specs.Views.{expr_fields}
-use Rattle.gt_read.specs.DraftViews.{expr_draft, expr_entry_draft, expr_parts}
-use Rattle.gt_read.specs.Drafts.{drafted, finished, worst}
+use Rattle.gt_read.specs.Drafts.Views.{expr_draft, expr_entry_draft, expr_parts}
+use Rattle.gt_read.specs.Drafts.Draft.{drafted, finished, worst}
 use Rattle.gt_read.specs.Meaning.{meaning}
 use Rattle.gt_read.proofs.DraftLemmas.{entry_some, entry_none}
 use Rattle.gt_read.proofs.exprs.ExprEntryDraftMessage.finish.Goals as goal

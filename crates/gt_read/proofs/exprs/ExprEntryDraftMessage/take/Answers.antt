@@ -2,9 +2,9 @@ use Rattle.std.proofs.Common.{◌≡◌, false, eqb, refl, arith}
 use Rattle.std.proofs.lemmas.Bool.{ne_eqb}
 use Rattle.std.proofs.lemmas.Result.{err_from_is_err_and}
 use Rattle.gt_model.specs.Schema.{expr_rows}
-use Rattle.gt_read.specs.DraftViews.{expr_draft, expr_entry_draft}
-use Rattle.gt_read.specs.Drafts.{step}
-use Rattle.gt_read.specs.Reading.{carried}
+use Rattle.gt_read.specs.Drafts.Views.{expr_draft, expr_entry_draft}
+use Rattle.gt_read.specs.Drafts.Draft.{step}
+use Rattle.gt_read.specs.Drafts.Answers.{carried}
 use Rattle.gt_read.proofs.DraftLemmas.{silent, enters_view}
 use Rattle.gt_read.proofs.exprs.ExprEntryDraftMessage.take.Goals as goal
 

@@ -1,8 +1,8 @@
 use Rattle.std.proofs.Common.{refl}
 use Rattle.gt_model.specs.Schema.{interval_rows}
 use Rattle.gt_model.specs.Views.{interval_value}
-use Rattle.gt_read.specs.DraftViews.{interval_draft}
-use Rattle.gt_read.specs.Drafts.{finished, worst}
+use Rattle.gt_read.specs.Drafts.Views.{interval_draft}
+use Rattle.gt_read.specs.Drafts.Draft.{finished, worst}
 use Rattle.gt_read.proofs.DraftLemmas.{earlier-none}
 use Rattle.gt_read.proofs.Maps.{exprs_back}
 use Rattle.gt_read.proofs.intervals.IntervalDraftMessage.finish.Goals as goal

@@ -4,10 +4,10 @@ use Rattle.std.proofs.lemmas.List.{append-nil}
 use Rattle.std.proofs.lemmas.Result.{err_from_is_err_and}
 use Rattle.gt_model.specs.Schema.{block_rows, interval_rows}
 use Rattle.gt_model.specs.Views.{block_value}
-use Rattle.gt_read.specs.DraftViews.{block_draft, interval_draft}
-use Rattle.gt_read.specs.Drafts.{step}
+use Rattle.gt_read.specs.Drafts.Views.{block_draft, interval_draft}
+use Rattle.gt_read.specs.Drafts.Draft.{step}
 use Rattle.gt_read.specs.Faults.{piece_faults}
-use Rattle.gt_read.specs.Reading.{carried}
+use Rattle.gt_read.specs.Drafts.Answers.{carried}
 use Rattle.gt_read.proofs.DraftLemmas.{silent, adds_view}
 use Rattle.gt_read.proofs.intervals.IntervalDraftMessage.take.Goals as goal
 

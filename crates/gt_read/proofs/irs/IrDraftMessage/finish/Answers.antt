@@ -1,8 +1,8 @@
 use Rattle.std.proofs.Common.{refl}
 use Rattle.gt_model.specs.Schema.{cfg_rows, ir_rows}
 use Rattle.gt_model.specs.Views.{cfg_value, ir_value}
-use Rattle.gt_read.specs.DraftViews.{cfg_draft, ir_draft}
-use Rattle.gt_read.specs.Drafts.{finished, worst}
+use Rattle.gt_read.specs.Drafts.Views.{cfg_draft, ir_draft}
+use Rattle.gt_read.specs.Drafts.Draft.{finished, worst}
 use Rattle.gt_read.proofs.DraftLemmas.{finishes_if, earlier-none}
 use Rattle.gt_read.proofs.Maps.{tables_back, tables_clean}
 use Rattle.gt_read.proofs.irs.IrDraftMessage.finish.Goals as goal

@@ -1,7 +1,7 @@
 use Rattle.std.proofs.Common.{refl}
 use Rattle.gt_model.specs.Schema.{ir_rows}
-use Rattle.gt_read.specs.DraftViews.{ir_draft}
-use Rattle.gt_read.specs.Drafts.{drafted}
+use Rattle.gt_read.specs.Drafts.Views.{ir_draft}
+use Rattle.gt_read.specs.Drafts.Draft.{drafted}
 use Rattle.gt_read.specs.Meaning.{meaning}
 use Rattle.gt_read.proofs.irs.IrDraftMessage.start.Goals as goal
 

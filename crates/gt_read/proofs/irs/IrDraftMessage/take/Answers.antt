@@ -4,10 +4,10 @@ use Rattle.std.proofs.lemmas.List.{append-nil}
 use Rattle.std.proofs.lemmas.Result.{err_from_is_err_and}
 use Rattle.gt_model.specs.Schema.{cfg_rows, ir_rows, module_rows}
 use Rattle.gt_model.specs.Views.{module_value}
-use Rattle.gt_read.specs.DraftViews.{cfg_draft, module_draft, ir_draft}
-use Rattle.gt_read.specs.Drafts.{step}
+use Rattle.gt_read.specs.Drafts.Views.{cfg_draft, module_draft, ir_draft}
+use Rattle.gt_read.specs.Drafts.Draft.{step}
 use Rattle.gt_read.specs.Faults.{piece_faults}
-use Rattle.gt_read.specs.Reading.{carried}
+use Rattle.gt_read.specs.Drafts.Answers.{carried}
 use Rattle.gt_read.proofs.DraftLemmas.{silent, enters_view, adds_view}
 use Rattle.gt_read.proofs.irs.IrDraftMessage.take.Goals as goal
 

@@ -4,8 +4,8 @@ use mir.Syntax.{w32, w64}
 use mir.Val.{SFits}
 use Rattle.gt_model.specs.Schema.{module_rows}
 use Rattle.gt_model.specs.Views.{module_value}
-use Rattle.gt_read.specs.DraftViews.{module_draft}
-use Rattle.gt_read.specs.Drafts.{finished, worst}
+use Rattle.gt_read.specs.Drafts.Views.{module_draft}
+use Rattle.gt_read.specs.Drafts.Draft.{finished, worst}
 use Rattle.gt_read.proofs.DraftLemmas.{earlier-none}
 use Rattle.gt_read.proofs.Maps.{tables_back, tables_clean}
 use Rattle.gt_read.proofs.modules.ModuleDraftMessage.finish.Goals as goal

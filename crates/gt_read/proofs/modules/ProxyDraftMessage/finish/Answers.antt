@@ -1,8 +1,8 @@
 use Rattle.std.proofs.Common.{refl}
 use Rattle.gt_model.specs.Schema.{proxy_rows}
 use Rattle.gt_model.specs.Views.{proxy_value}
-use Rattle.gt_read.specs.DraftViews.{proxy_draft}
-use Rattle.gt_read.specs.Drafts.{finished, worst}
+use Rattle.gt_read.specs.Drafts.Views.{proxy_draft}
+use Rattle.gt_read.specs.Drafts.Draft.{finished, worst}
 use Rattle.gt_read.proofs.DraftLemmas.{earlier-none}
 use Rattle.gt_read.proofs.modules.ProxyDraftMessage.finish.Goals as goal
 

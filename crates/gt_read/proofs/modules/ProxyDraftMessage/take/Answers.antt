@@ -1,10 +1,10 @@
 use Rattle.std.proofs.Common.{◌≡◌, false, eqb, refl, arith}
 use Rattle.std.proofs.lemmas.Bool.{ne_eqb}
 use Rattle.gt_model.specs.Schema.{proxy_rows}
-use Rattle.gt_read.specs.DraftViews.{proxy_draft}
-use Rattle.gt_read.specs.Drafts.{step}
+use Rattle.gt_read.specs.Drafts.Views.{proxy_draft}
+use Rattle.gt_read.specs.Drafts.Draft.{step}
 use Rattle.gt_read.specs.Faults.{piece_faults}
-use Rattle.gt_read.specs.Reading.{carried}
+use Rattle.gt_read.specs.Drafts.Answers.{carried}
 use Rattle.gt_read.proofs.DraftLemmas.{silent}
 use Rattle.gt_read.proofs.modules.ProxyDraftMessage.take.Goals as goal
 

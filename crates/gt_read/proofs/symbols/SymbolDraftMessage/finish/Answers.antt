@@ -1,8 +1,8 @@
 use Rattle.std.proofs.Common.{refl}
 use Rattle.gt_model.specs.Schema.{symbol_rows}
 use Rattle.gt_model.specs.Views.{symbol_value}
-use Rattle.gt_read.specs.DraftViews.{symbol_draft}
-use Rattle.gt_read.specs.Drafts.{finished, worst}
+use Rattle.gt_read.specs.Drafts.Views.{symbol_draft}
+use Rattle.gt_read.specs.Drafts.Draft.{finished, worst}
 use Rattle.gt_read.proofs.DraftLemmas.{earlier-none}
 use Rattle.gt_read.proofs.symbols.SymbolDraftMessage.finish.Goals as goal
 

@@ -3,10 +3,10 @@ use Rattle.std.proofs.lemmas.Bool.{ne_eqb}
 use Rattle.std.proofs.lemmas.List.{append-nil}
 use Rattle.std.proofs.lemmas.Result.{err_from_is_err_and}
 use Rattle.gt_model.specs.Schema.{symbol_rows}
-use Rattle.gt_read.specs.DraftViews.{symbol_draft}
-use Rattle.gt_read.specs.Drafts.{step}
+use Rattle.gt_read.specs.Drafts.Views.{symbol_draft}
+use Rattle.gt_read.specs.Drafts.Draft.{step}
 use Rattle.gt_read.specs.Faults.{piece_faults}
-use Rattle.gt_read.specs.Reading.{carried}
+use Rattle.gt_read.specs.Drafts.Answers.{carried}
 use Rattle.gt_read.proofs.DraftLemmas.{silent}
 use Rattle.gt_read.proofs.Members.{value_steps, referent_steps}
 use Rattle.gt_read.proofs.symbols.SymbolDraftMessage.take.Goals as goal

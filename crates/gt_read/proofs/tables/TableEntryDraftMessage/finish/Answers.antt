@@ -1,8 +1,8 @@
 use Rattle.std.proofs.Common.{refl}
 use Rattle.gt_model.specs.Schema.{table_rows}
 use Rattle.gt_model.specs.Views.{table_fields}
-use Rattle.gt_read.specs.DraftViews.{table_draft, table_entry_draft, table_parts}
-use Rattle.gt_read.specs.Drafts.{drafted, finished, worst}
+use Rattle.gt_read.specs.Drafts.Views.{table_draft, table_entry_draft, table_parts}
+use Rattle.gt_read.specs.Drafts.Draft.{drafted, finished, worst}
 use Rattle.gt_read.specs.Meaning.{meaning}
 use Rattle.gt_read.proofs.DraftLemmas.{entry_some, entry_none}
 use Rattle.gt_read.proofs.tables.TableEntryDraftMessage.finish.Goals as goal

@@ -3,8 +3,8 @@ use Rattle.std.proofs.lemmas.Bool.{ne_eqb}
 use Rattle.std.proofs.lemmas.List.{append-nil}
 use Rattle.std.proofs.lemmas.Result.{err_from_is_err_and}
 use Rattle.gt_model.specs.Schema.{table_rows}
-use Rattle.gt_read.specs.DraftViews.{table_draft, table_entry_draft}
-use Rattle.gt_read.specs.Drafts.{step}
+use Rattle.gt_read.specs.Drafts.Views.{table_draft, table_entry_draft}
+use Rattle.gt_read.specs.Drafts.Draft.{step}
 use Rattle.gt_read.proofs.DraftLemmas.{enters_view}
 use Rattle.gt_read.proofs.tables.TableEntryDraftMessage.take.Goals as goal
 

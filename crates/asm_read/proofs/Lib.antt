@@ -1,0 +1,4 @@
+pub mod Identifiers
+pub mod Numerals
+pub mod Quoting
+pub mod Splitting

@@ -1,0 +1,3 @@
+pub mod Identifier
+pub mod Number
+pub mod Words

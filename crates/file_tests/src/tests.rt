@@ -1,0 +1,6 @@
+mod desks;
+mod faults;
+mod fields;
+mod recoding;
+mod records;
+mod words;

@@ -1,0 +1,85 @@
+-- A chain of stages that give one result each gives one.
+use Rattle.std.proofs.Common.{◌≡◌, List, ℕ, Ok, Err, Result, inl, inr, sym, ◌∙◌, ap, subst}
+use Rattle.std.specs.Prelude.{OnOk}
+use Rattle.std.specs.Result.{IsErrAnd}
+use Rattle.gr_base.specs.declared.end.End.{End}
+use Rattle.gr_base.specs.declared.end.End.TheVariants as ends
+use Rattle.gt_model.specs.declared.ir.Ir.{Ir}
+use Rattle.gt_read.specs.File.{file}
+use Rattle.link_image.specs.declared.image.Image.{Image as AnImage}
+use Rattle.link_image.specs.declared.fault.ImageFault.{ImageFault}
+use Rattle.link_image.specs.Reading.{image_fault}
+use Rattle.link_image.specs.Valid.{image_bytes}
+use Rattle.gt_front.specs.declared.verdict.Refusal.{Refusal}
+use Rattle.gt_front.specs.declared.verdict.Refusal.TheVariants.{Format, Image}
+use Rattle.gt_front.specs.Stages.{Stage, GivesOne, Answers, chain, just, meant, imaged}
+
+pub just_one : {T : Type 0} (value : T) → GivesOne (just value)
+just_one value (Ok a) (Ok b) x y = ap Ok (x ∙ sym y)
+just_one value (Ok a) (Err s) x y = absurd y
+just_one value (Err r) b x y = absurd x
+
+module _ {S T : Type 0} (first : Stage S) (next : S → Stage T) (one : GivesOne first) (ones : (mid : S) → GivesOne (next mid)) where
+  -- the first stage's result, and what the next gives of it
+  Along : Result T Refusal → Type 0
+  Along given = (mid : S) × first (Ok mid) × next mid given
+
+  along_one : (a b : Result T Refusal) → Along a → Along b → a ≡ b
+  unfolding Along
+  along_one a b x y =
+      let results = one (Ok x.0) (Ok y.0) x.1 y.1 in
+      let same : x.0 ≡ y.0 = cc in
+      ones y.0 a b (subst (λ (mid : S). next mid a) same x.2) y.2
+
+  stops : (r : Refusal) (b : Result T Refusal) → first (Err r) → Along b → ⊥
+  unfolding Along
+  stops r b x y = let results = one (Err r) (Ok y.0) x y.1 in cc
+
+  pub chain_one : GivesOne (chain first next)
+  unfolding Along
+  chain_one (Ok a) (Ok b) x y = along_one (Ok a) (Ok b) x y
+  chain_one (Ok a) (Err s) x (inl y) = absurd (stops s (Ok a) y x)
+  chain_one (Ok a) (Err s) x (inr y) = along_one (Ok a) (Err s) x y
+  chain_one (Err r) (Ok b) (inl x) y = absurd (stops r (Ok b) x y)
+  chain_one (Err r) (Ok b) (inr x) y = along_one (Err r) (Ok b) x y
+  chain_one (Err r) (Err s) (inl x) (inl y) = let results = one (Err r) (Err s) x y in cc
+  chain_one (Err r) (Err s) (inl x) (inr y) = absurd (stops r (Err s) x y)
+  chain_one (Err r) (Err s) (inr x) (inl y) = absurd (stops s (Err r) y x)
+  chain_one (Err r) (Err s) (inr x) (inr y) = along_one (Err r) (Err s) x y
+
+-- the bytes of a file mean one IR, or have one fault
+pub meant_one : ((bytes : List ℕ) (a b : Ir) → file bytes a → file bytes b → a ≡ b) → (bytes : List ℕ) → GivesOne (meant bytes)
+meant_one one bytes (Ok a) (Ok b) x y = ap Ok (one bytes a b x y)
+meant_one one bytes (Ok a) (Err s) x y = absurd (y.3 a x)
+meant_one one bytes (Err r) (Ok b) x y = absurd (x.3 b y)
+meant_one one bytes (Err r) (Err s) x y =
+    let here = x.2 in
+    let there = y.2 in
+    let same : x.0 ≡ y.0 = cc in
+    ap Err (x.1 ∙ ap Format same ∙ sym y.1)
+
+fault_at : ℕ → ImageFault
+fault_at place = record { place = place }
+
+-- bytes spell one image, or have one fault
+pub imaged_one : ((a b : AnImage) (bytes : List ℕ) → image_bytes a bytes → image_bytes b bytes → a ≡ b)
+    → ((bytes : List ℕ) (a b : ℕ) → image_fault bytes a → image_fault bytes b → a ≡ b) → (bytes : List ℕ) → GivesOne (imaged bytes)
+unfolding fault_at
+imaged_one one fault bytes (Ok a) (Ok b) x y = ap Ok (one a b bytes x y)
+imaged_one one fault bytes (Ok a) (Err s) x y = absurd (y.3 a x)
+imaged_one one fault bytes (Err r) (Ok b) x y = absurd (x.3 b y)
+imaged_one one fault bytes (Err r) (Err s) x y =
+    let same : x.0 ≡ y.0 = ap fault_at (fault bytes x.0.place y.0.place x.2 y.2) in
+    ap Err (x.1 ∙ ap Image same ∙ sym y.1)
+
+-- what holds anyway holds where a call is Ok
+pub on_ok : {A E : Type 0} (r : Result A E) (P : Type 0) → P → OnOk r P
+on_ok (Ok a) P h = h
+on_ok (Err e) P h = tt
+
+-- a chain stops where its first stage does
+pub chain_stops : {S T : Type 0} (first : Stage S) (next : S → Stage T) (end : End Refusal) (r : Result T (End Refusal))
+    → Answers first (Err end) → IsErrAnd r (λ e. e ≡ end) → Answers (chain first next) r
+chain_stops first next end (Ok value) h w = absurd w
+chain_stops first next (ends.Fault refusal) (Err e) h w = subst (λ (x : End Refusal). Answers (chain first next) (Err x)) (sym w) (inl h)
+chain_stops first next ends.Memory (Err e) h w = subst (λ (x : End Refusal). Answers (chain first next) (Err x)) (sym w) tt

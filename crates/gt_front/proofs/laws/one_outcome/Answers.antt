@@ -1,0 +1,5 @@
+use Rattle.gt_front.proofs.Outcomes.{outcome_one}
+use Rattle.gt_front.proofs.laws.one_outcome.Goals as goal
+
+pub returns : goal.returns
+returns c = outcome_one c.one_meaning.ensures c.one_spelling.ensures.image c.image_or_fault.ensures.one

@@ -1,0 +1,40 @@
+ghost use Rattle.std.specs.Prelude.{◌≡◌, ◌<◌, IfOk};
+ghost use Rattle.gt_model.specs.Ordered.{ordered};
+ghost use Rattle.gt_front.specs.Stages.{Answers, meant, imaged};
+ghost use Rattle.link_image.specs.Valid.{image_ok};
+
+use crate::verdict::Refusal;
+use gr_base::End;
+use gt_model::Ir;
+use gt_read::read_file;
+use gt_write::laws::a_file_has_no_fault;
+use link_image::laws::image_or_fault;
+use link_image::{Image, read_image};
+use std::alloc::Global;
+
+/// The IR that the bytes of a file mean.
+pub fn read_ir(alloc: Global, bytes: &[u8]) -> Result<Ir, End<Refusal>>
+    ensures stage { Answers (meant bytes.now) result }
+    ensures order { IfOk result (λ ir. ordered ir) }
+    ensures version { IfOk result (λ ir. ir.version < 256) }
+{
+    a_file_has_no_fault();
+    match read_file(alloc, bytes) {
+        Ok(ir) => Ok(ir),
+        Err(End::Fault(fault)) => Err(End::Fault(Refusal::Format(fault))),
+        Err(End::Memory) => Err(End::Memory),
+    }
+}
+
+/// The image that bytes spell.
+pub fn image_in(alloc: Global, bytes: &[u8]) -> Result<Image, End<Refusal>>
+    ensures stage { Answers (imaged bytes.now) result }
+    ensures valid { IfOk result image_ok }
+{
+    image_or_fault();
+    match read_image(alloc, bytes) {
+        Ok(image) => Ok(image),
+        Err(End::Fault(fault)) => Err(End::Fault(Refusal::Image(fault))),
+        Err(End::Memory) => Err(End::Memory),
+    }
+}

@@ -1,9 +1,0 @@
-mod faults;
-mod identifiers;
-mod maps;
-mod numbers;
-mod oneofs;
-mod records;
-mod texts;
-mod whole;
-mod words;

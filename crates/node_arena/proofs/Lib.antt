@@ -1,0 +1,9 @@
+pub mod Lists
+pub mod Placed
+pub mod PlacedModules
+pub mod RefLists
+pub mod IndexLists
+pub mod RefLaws
+pub mod Hops
+pub mod Faults
+pub mod BareBlocks

@@ -1,0 +1,6 @@
+use Rattle.std.proofs.Common.{◌≡◌, ◌++◌, map, take}
+use Rattle.node_arena.specs.declared.ids.NodeRef.TheVariants as refs
+use Rattle.node_arena.proofs.refs.push_proxies.Given as goal
+
+abbrev pub invariant-loop-id : goal.invariant-loop-id
+invariant-loop-id l = l.out.items ≡ l.initial.out.items ++ map (λ id. refs.Proxy id) (take l.id-index l.ids)

@@ -1,5 +1,0 @@
-use Rattle.pb_wire.proofs.Loop.{Reads}
-use Rattle.pb_wire.proofs.reading.read_varint.Given as goal
-
-abbrev pub invariant-loop-i : goal.invariant-loop-i
-invariant-loop-i l = Reads l.bytes l.i l.value

@@ -1,0 +1,15 @@
+pub mod Differences
+pub mod Modules
+pub mod Tables
+pub mod Patches
+pub mod Derived
+pub mod Targets
+pub mod Program
+pub mod Points
+pub mod Expressions
+pub mod Linkable
+pub mod TableOk
+pub mod Shapes
+pub mod Layouts
+pub mod Placing
+pub mod Images
