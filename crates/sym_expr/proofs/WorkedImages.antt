@@ -1,17 +1,13 @@
 -- Worked images: evaluated, and cited by nothing.
 use Rattle.std.proofs.Common.{refl, ◌≡◌, pos}
-use Rattle.std.specs.Prelude.{ℕ, Bool, true, false, List, [], ◌∷◌, Option, Some, None, map, replicate, codes, take, drop}
+use Rattle.std.specs.Prelude.{ℕ, true, false, List, [], ◌∷◌, Some, None, map, replicate, codes, take, drop}
 use Rattle.gt_model.specs.declared.exprs.Expr.{Expr}
 use Rattle.gt_model.specs.declared.exprs.ExprValue.TheVariants as values
-use Rattle.gt_model.specs.declared.intervals.Block.{Block}
 use Rattle.gt_model.specs.declared.intervals.Body.TheVariants as bodies
 use Rattle.gt_model.specs.declared.intervals.Interval.{Interval}
 use Rattle.gt_model.specs.declared.modules.Module.{Module}
-use Rattle.gt_model.specs.declared.modules.Section.{Section}
-use Rattle.gt_model.specs.declared.symbols.Symbol.{Symbol}
 use Rattle.gt_model.specs.declared.symbols.Payload.TheVariants as payloads
 use Rattle.sym_expr.specs.declared.layout.Layout.{Layout}
-use Rattle.sym_expr.specs.declared.image.LinkFault.{LinkFault}
 use Rattle.sym_expr.specs.declared.image.LinkFault.TheVariants as faults
 use Rattle.sym_expr.specs.Images.{image, link_fault}
 use Rattle.sym_expr.specs.Placing.{shape_of}
