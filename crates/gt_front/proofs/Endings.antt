@@ -1,5 +1,5 @@
 -- The three ways in which a job ends: an input wasn't read, the job refused, or it wrote what it had made.
-use Rattle.std.proofs.Common.{◌≡◌, ◌⊎◌, List, ◌∷◌, ◌++◌, ℕ, Bool, IsTrue, Option, None, Some, IsSome, Ok, Err, refl, inl, inr, sym, ◌∙◌, ap, subst}
+use Rattle.std.proofs.Common.{◌≡◌, ◌⊎◌, List, ℕ, Bool, IsTrue, Option, None, Some, IsSome, Ok, Err, refl, inl, inr, sym, ◌∙◌, ap, subst}
 use Rattle.gr_base.specs.Desk.{Files, Told, ToldBoth, SameFiles, Rose}
 use Rattle.gr_base.specs.declared.end.End.{End}
 use Rattle.gr_base.specs.declared.end.End.TheVariants as ends
@@ -14,13 +14,14 @@ use Rattle.gt_front.specs.declared.verdict.Refusal.{Refusal}
 use Rattle.gt_front.specs.declared.verdict.Refusal.TheVariants as refusals
 use Rattle.gt_front.specs.Answer.{answer_of, unread_answer}
 use Rattle.gt_front.specs.Causes.{ReadFaultCause, TooLargeCause, WriteFaultCause, IsOwn, IsComplete, IsStopped, Kept, Settles, Wrote, WrotePart, verdict_answer}
-use Rattle.gt_front.specs.Inputs.{InputFile, IsReadable, IsTooLarge, AllReadable, Reaches, Names, inputs_of}
-use Rattle.gt_front.specs.Outcome.{Outcomes, Outcome, Pass, Verdict, Assured, out_of}
+use Rattle.gt_front.specs.Inputs.{InputFile, AllReadable, inputs_of}
+use Rattle.gt_front.specs.Outcome.{Outcomes, Outcome, Pass, Verdict, Promised, out_of}
 use Rattle.gt_front.specs.Picked.{Picked}
-use Rattle.gt_front.specs.Reads.{Counts, IsUnread, Refuses}
+use Rattle.gt_front.specs.Reads.{Counts, IsUnread}
 use Rattle.gt_front.specs.Served.{Around, Served}
-use Rattle.gt_front.proofs.FirstBad.{first_one, all_at, missing_unreadable, large_unreadable, missing_not_large}
-use Rattle.gt_front.proofs.Telling.{told_always, told_map, told_map2, both_map, both_weaken}
+use Rattle.gt_front.proofs.FirstBad.{missing_unreadable, large_unreadable}
+use Rattle.gt_front.proofs.Unreads.{IsPlain, none_bad, no_read_fault, no_too_large, unread_read_fault, unread_too_large}
+use Rattle.gt_front.proofs.Telling.{told_always, told_map, both_map, both_weaken}
 
 -- the refusal that an answer tells of
 refusal_in : Answer → Option Refusal
@@ -31,7 +32,7 @@ refusal_in _ = None
 refusal_again : (refusal : Refusal) → refusal_in (answer_of refusal) ≡ Some refusal
 unfolding refusal_in
 refusal_again (refusals.Format fault) = refl
-refusal_again (refusals.Image fault) = refl
+refusal_again _ = refl
 
 -- an answer of another kind isn't that of a refusal
 not_refusal : (refusal : Refusal) (other : Answer) → refusal_in other ≡ None → answer_of refusal ≡ other → ⊥
@@ -43,125 +44,7 @@ one_refusal a b e = let some : Some a ≡ Some b = sym (refusal_again a) ∙ ap 
 -- an answer says that a job is done, or it doesn't
 done_or_not : (result : Answer) → ((text : List ℕ) × (result ≡ Done text)) ⊎ ((text : List ℕ) → result ≡ Done text → ⊥)
 done_or_not (Done text) = inl (text, refl)
-done_or_not (Usage index) = inr (λ text e. absurd cc)
-done_or_not (ReadFault role) = inr (λ text e. absurd cc)
-done_or_not WriteFault = inr (λ text e. absurd cc)
-done_or_not Memory = inr (λ text e. absurd cc)
-done_or_not (TooLarge role) = inr (λ text e. absurd cc)
-done_or_not (Format fault) = inr (λ text e. absurd cc)
-done_or_not (Image fault) = inr (λ text e. absurd cc)
-
--- an input that can't be read isn't reached where all can be read
-none_bad : (inputs : List InputFile) (held : Files) (role : Role) (name : List ℕ) → AllReadable inputs held
-    → Reaches inputs role name held → IsReadable held name
-none_bad inputs held role name all reach =
-    let P : InputFile → Type 0 = λ input. IsReadable held input.1 in
-    let along : AllReadable (reach.before ++ (role, name) ∷ reach.after) held = subst (λ (l : List InputFile). AllReadable l held) reach.listed all in
-    all_at P reach.before (role, name) reach.after along
-
--- the answer isn't one of a refused read
-abbrev pub IsPlain : Answer → Type 0
-IsPlain result = ((role : Role) → result ≡ ReadFault role → ⊥) × ((role : Role) → result ≡ TooLarge role → ⊥)
-
-module _ (inputs : List InputFile) (files : Option Files) (steady : Bool) (before now : ℕ) (result : Answer) (plain : IsPlain result) (all : Told files (AllReadable inputs)) where
-  -- where every input was read, no read was refused
-  no_read_fault : ReadFaultCause inputs files steady before now result
-  no_read_fault = record {
-    rose = λ role e. absurd (plain.0 role e);
-    named = λ role e. absurd (plain.0 role e);
-    reached = λ role e. absurd (plain.0 role e);
-    missing = λ sure role e. absurd (plain.0 role e);
-    always = λ sure. told_map files (AllReadable inputs) _
-        (λ held readable role name reach none. absurd (missing_unreadable held name none (none_bad inputs held role name readable reach))) all;
-  }
-
-  no_too_large : TooLargeCause inputs files steady before now result
-  no_too_large = record {
-    took = λ role e. absurd (plain.1 role e);
-    named = λ role e. absurd (plain.1 role e);
-    larger = λ role e. absurd (plain.1 role e);
-    always = λ sure. told_map files (AllReadable inputs) _
-        (λ held readable role name reach large. absurd (large_unreadable held name large (none_bad inputs held role name readable reach))) all;
-  }
-
--- the input at which reading stopped is the first one that can't be read
-module _ (inputs before after : List InputFile) (role : Role) (name : List ℕ) (listed : inputs ≡ before ++ (role, name) ∷ after) (files : Option Files) (steady : Bool)
-    (all : Told files (AllReadable before)) where
-  one_place : (held : Files) (r : Role) (n : List ℕ) → AllReadable before held → Reaches inputs r n held
-      → (IsReadable held name → ⊥) → (IsReadable held n → ⊥) → ◌≡◌ {A = InputFile} (role, name) (r, n)
-  one_place held r n here reach bad1 bad2 =
-      let P : InputFile → Type 0 = λ input. IsReadable held input.1 in
-      first_one P before reach.before (role, name) (r, n) after reach.after (sym listed ∙ reach.listed) here reach.readable bad1 bad2
-
-  reaches : (held : Files) → AllReadable before held → Reaches inputs role name held
-  reaches held here = record { before = before; after = after; listed = listed; readable = here }
-
-  names : (r : Role) → role ≡ r → Names inputs r
-  names r e = subst (λ (x : Role). Names inputs x) e (before, name, after, listed)
-
-  reached_by : (r : Role) → role ≡ r → (Q : Files → List ℕ → Type 0) → Told files (λ held. Q held name)
-      → Told files (λ held. (n : List ℕ) × Reaches inputs r n held × Q held n)
-  reached_by r e Q h = told_map2 files _ _ _
-      (λ held a q. (name, subst (λ (x : Role). Reaches inputs x name held) e (reaches held a), q)) all h
-
-  unread_read_fault : (counts : Counts) (end : End ReadEnd) → Refuses name files steady counts end
-      → ReadFaultCause inputs files steady counts.read_before counts.read_now (unread_answer role end)
-  unread_read_fault counts ends.Memory w = record {
-    rose = λ r e. absurd cc;
-    named = λ r e. absurd cc;
-    reached = λ r e. absurd cc;
-    missing = λ sure r e. absurd cc;
-    always = λ sure. told_map files _ _ (λ held a r n reach none. inr refl) all;
-  }
-  unread_read_fault counts (ends.Fault reads.Fault) w = record {
-    rose = λ r e. w.0;
-    named = λ r e. let same : role ≡ r = cc in names r same;
-    reached = λ r e.
-        let same : role ≡ r = cc in
-        told_map files _ _ (λ held a. (name, subst (λ (x : Role). Reaches inputs x name held) same (reaches held a))) all;
-    missing = λ sure r e. let same : role ≡ r = cc in reached_by r same (λ held n. held n ≡ None) (w.1 sure);
-    always = λ sure. told_map2 files _ _ _ (λ held a here r n reach none.
-        let place = one_place held r n a reach (missing_unreadable held name here) (missing_unreadable held n none) in
-        inl (ap (λ (x : InputFile). ReadFault x.0) place)) all (w.1 sure);
-  }
-  unread_read_fault counts (ends.Fault reads.TooLarge) w = record {
-    rose = λ r e. absurd cc;
-    named = λ r e. absurd cc;
-    reached = λ r e. absurd cc;
-    missing = λ sure r e. absurd cc;
-    always = λ sure. told_map2 files _ _ _ (λ held a here r n reach none.
-        let place = one_place held r n a reach (large_unreadable held name here) (missing_unreadable held n none) in
-        let same : name ≡ n = ap (λ (x : InputFile). x.1) place in
-        let none' : held name ≡ None = rw same none in
-        absurd (missing_not_large held name none' here)) all w.1;
-  }
-
-  unread_too_large : (counts : Counts) (end : End ReadEnd) → Refuses name files steady counts end
-      → TooLargeCause inputs files steady counts.taken_before counts.taken_now (unread_answer role end)
-  unread_too_large counts ends.Memory w = record {
-    took = λ r e. absurd cc;
-    named = λ r e. absurd cc;
-    larger = λ r e. absurd cc;
-    always = λ sure. told_map files _ _ (λ held a r n reach large. inr refl) all;
-  }
-  unread_too_large counts (ends.Fault reads.TooLarge) w = record {
-    took = λ r e. w.0;
-    named = λ r e. let same : role ≡ r = cc in names r same;
-    larger = λ r e. let same : role ≡ r = cc in reached_by r same (λ held n. IsTooLarge held n) w.1;
-    always = λ sure. told_map2 files _ _ _ (λ held a here r n reach large.
-        let place = one_place held r n a reach (large_unreadable held name here) (large_unreadable held n large) in
-        inl (ap (λ (x : InputFile). TooLarge x.0) place)) all w.1;
-  }
-  unread_too_large counts (ends.Fault reads.Fault) w = record {
-    took = λ r e. absurd cc;
-    named = λ r e. absurd cc;
-    larger = λ r e. absurd cc;
-    always = λ sure. told_map2 files _ _ _ (λ held a here r n reach large.
-        let place = one_place held r n a reach (missing_unreadable held name here) (large_unreadable held n large) in
-        let same : name ≡ n = ap (λ (x : InputFile). x.1) place in
-        let none : held n ≡ None = rw (← same) here in
-        absurd (missing_not_large held n none large)) all (w.1 sure);
-  }
+done_or_not _ = inr (λ text e. absurd cc)
 
 -- where every input can be read and no fault rose, a job's own answer comes
 module _ (inputs : List InputFile) (own : Outcomes) (out : Option (List ℕ)) (steady : Bool) (rb rn tb tn wb wn : ℕ) (result : Answer) where
@@ -219,10 +102,10 @@ module _ (asked : Option Picked) (passes : List Pass) (d : Around) (result : Ans
       → TooLargeCause (inputs_of asked) d.old d.steady d.taken_before d.taken_now result
       → WriteFaultCause (Outcome asked passes) (out_of asked) d.old d.steady d.write_before d.write_now result
       → IsOwn (Outcome asked passes) d.old result
-      → ((text : List ℕ) → result ≡ Done text → Told d.old (Assured asked))
+      → ((text : List ℕ) → result ≡ Done text → Told d.old (Promised asked))
       → ToldBoth d.old d.new (Kept (Outcome asked passes) (out_of asked) result)
       → Served asked passes d result
-  make_served served read large write own assured kept = record {
+  make_served served read large write own promised kept = record {
     served = served;
     read_fault = read;
     too_large = large;
@@ -230,7 +113,7 @@ module _ (asked : Option Picked) (passes : List Pass) (d : Around) (result : Ans
     own = own;
     complete = is_complete (inputs_of asked) (Outcome asked passes) (out_of asked) d.steady d.read_before d.read_now d.taken_before d.taken_now
         d.write_before d.write_now result d.old read large write own;
-    assured = assured;
+    promised = promised;
     kept = kept;
     nothing = λ e. both_weaken d.old d.new _ _ (λ old new k. record {
       same = nothing_kept (Outcome asked passes) (out_of asked) result old new e k;
@@ -334,9 +217,9 @@ module _ (asked : Option Picked) (passes : List Pass) (d : Around)
 
   module _ (finished : Finished) (mine : Told d.old (λ held. Outcome asked passes held (Ok finished))) where
     -- the job is done
-    pub done : Told d.old (Assured asked) → ToldBoth d.old d.new (Wrote (out_of asked) finished.out) → Served asked passes d (Done finished.text)
+    pub done : Told d.old (Promised asked) → ToldBoth d.old d.new (Wrote (out_of asked) finished.out) → Served asked passes d (Done finished.text)
     unfolding refusal_in
-    done assured wrote =
+    done promised wrote =
         let plain : IsPlain (Done finished.text) = ((λ r e. absurd cc), (λ r e. absurd cc)) in
         let text_is : (text : List ℕ) → Done finished.text ≡ Done text → finished.text ≡ text = λ text e. cc in
         let made : (held : Files) (text : List ℕ) → Done finished.text ≡ Done text → Outcome asked passes held (Ok finished)
@@ -352,7 +235,7 @@ module _ (asked : Option Picked) (passes : List Pass) (d : Around)
           refused = λ other e. absurd (not_refusal other (Done finished.text) refl (sym e));
           settles = settles_as (Ok finished) (Done finished.text) (inl refl) mine;
         })
-        (λ text e. assured)
+        (λ text e. promised)
         (both_map d.old d.new _ _ _ (λ old new o w. record {
           done = λ text e. (finished.out, made old text e o, w);
           other = λ not. absurd (not finished.text refl);

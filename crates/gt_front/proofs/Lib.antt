@@ -4,6 +4,8 @@ pub mod Outcomes
 pub mod Telling
 pub mod Reading
 pub mod FirstBad
+pub mod Unreads
 pub mod Endings
 pub mod Serving
 pub mod Usages
+pub mod Requireds

@@ -12,7 +12,7 @@ use Rattle.gt_front.specs.declared.verdict.Refusal.{Refusal}
 use Rattle.gt_front.specs.Answer.{answer_of}
 use Rattle.gt_front.specs.Causes.{Kept, Wrote, WrotePart, WritesNothing}
 use Rattle.gt_front.specs.Inputs.{InputFile, Contents, AllHeld, AllReadable, files_as}
-use Rattle.gt_front.specs.Outcome.{Assured, Keeps, Outcome, Outcomes, Pass, Verdict, makes}
+use Rattle.gt_front.specs.Outcome.{Promised, Promises, Outcome, Outcomes, Pass, Verdict, makes}
 use Rattle.gt_front.specs.Picked.{Picked, picked}
 use Rattle.gt_front.specs.Reads.{HoldsAll, Writes, contents_view}
 use Rattle.gt_front.specs.Served.{Around, Served}
@@ -52,8 +52,8 @@ module _ (asked : Picked) (d : Around) (c : declared.Contents) (all : Told d.old
     makes = subst (λ (k : Contents). makes asked.job asked.settings [] k verdict) (λ i role. h role i) m;
   }) all holds
 
-  assured_is : Keeps asked.job (contents_view c) → Told d.old (Assured (Some asked))
-  assured_is k = told_map d.old _ _ (λ held h. subst (λ (x : Contents). Keeps asked.job x) (λ i role. h role i) k) holds
+  promised_is : Promises asked.job (contents_view c) → Told d.old (Promised (Some asked))
+  promised_is k = told_map d.old _ _ (λ held h. subst (λ (x : Contents). Promises asked.job x) (λ i role. h role i) k) holds
 
   pub serves_refused : (refusal : Refusal) → makes asked.job asked.settings [] (contents_view c) (Err refusal) → ToldBoth d.old d.new SameFiles
       → Served (Some asked) [] d (answer_of refusal)
@@ -62,12 +62,12 @@ module _ (asked : Picked) (d : Around) (c : declared.Contents) (all : Told d.old
   module _ (mid : Option Files) (mid_steady : Bool) (mid_write : ℕ) (same : ToldBoth d.old mid SameFiles) (steady : mid_steady ≡ d.steady)
       (later : d.write_before ≤ mid_write) (finished : Finished) (made : makes asked.job asked.settings [] (contents_view c) (Ok finished))
       (name : Option (List ℕ)) (named : name ≡ asked.out) where
-    pub serves_done : (text : List ℕ) → Keeps asked.job (contents_view c) → Writes name finished mid_steady mid_write d.write_now mid d.new (Ok text)
+    pub serves_done : (text : List ℕ) → Promises asked.job (contents_view c) → Writes name finished mid_steady mid_write d.write_now mid d.new (Ok text)
         → Served (Some asked) [] d (Done text)
     serves_done text keeps w =
         let at_name = subst (λ (n : Option (List ℕ)). ToldBoth mid d.new (Wrote n finished.out)) named w.1 in
         subst (λ (t : List ℕ). Served (Some asked) [] d (Done t)) (sym w.0)
-        (done (Some asked) [] d (one (Some asked) []) all finished (outcome_is (Ok finished) made) (assured_is keeps)
+        (done (Some asked) [] d (one (Some asked) []) all finished (outcome_is (Ok finished) made) (promised_is keeps)
         (both_after d.old mid d.new _ _ _ (wrote_after asked.out finished.out) same at_name))
 
     pub serves_fault : (fault : faults.WriteFault) → Writes name finished mid_steady mid_write d.write_now mid d.new (Err (ends.Fault fault))

@@ -3,6 +3,7 @@ use Rattle.std.specs.Prelude.{◌≡◌, ◌<◌, ◌≤◌, ℕ, ◌^◌, List,
 use Rattle.std.specs.List.{AllByRecursion, flat_map}
 use Rattle.std.specs.Option.{option_and_then}
 use Rattle.gr_base.specs.Desk.{Files}
+use Rattle.link_image.specs.Valid.{AreBytes}
 use Rattle.gt_front.specs.declared.answer.Role.{Role}
 use Rattle.gt_front.specs.declared.answer.TheConstants.{ROLES}
 use Rattle.gt_front.specs.Picked.{Picked}
@@ -36,6 +37,10 @@ contents_of asked files role = option_and_then files (asked.file role)
 -- the bytes of the input of a role; one that no word names is empty
 abbrev pub bytes_in : Contents → Role → List ℕ
 bytes_in contents role = unwrap_or (contents role) []
+
+-- what files hold are bytes
+abbrev pub HoldBytes : Files → Type 0
+HoldBytes files = (name bytes : List ℕ) → files name ≡ Some bytes → AreBytes bytes
 
 -- each input is held
 abbrev pub AllHeld : List InputFile → Files → Type 0

@@ -1,5 +1,5 @@
 -- The numbers of words.
-use Rattle.std.specs.Prelude.{ℕ, ◌+◌, ◌-◌, ◌*◌, fold, Bool, ◌&&◌, nat_lt, nat_le, List, length, Option, Some, None, if◌then◌else◌}
+use Rattle.std.specs.Prelude.{ℕ, ◌≤◌, ◌+◌, ◌-◌, ◌*◌, fold, Bool, ◌&&◌, nat_lt, nat_le, List, length, Option, Some, None, if◌then◌else◌}
 use Rattle.std.specs.List.{list_all}
 use Rattle.std.specs.Option.{option_and_then}
 use Rattle.gt_front.specs.declared.table.Bounds.{Bounds}
@@ -18,6 +18,10 @@ abbrev pub number_of : ℕ → List ℕ → Option ℕ
 number_of most text =
     if nat_lt 0 (length text) && list_all is_digit text && nat_le (decimal_value text) most
     then Some (decimal_value text) else None
+
+-- a number is within the bounds
+abbrev pub IsWithin : Bounds → ℕ → Type 0
+IsWithin bounds value = (bounds.least ≤ value) × (value ≤ bounds.most)
 
 -- a number, if it is within the bounds
 abbrev pub within : Bounds → ℕ → Option ℕ

@@ -10,7 +10,7 @@ use Rattle.gt_front.specs.declared.words.Settings.{Settings}
 use Rattle.gt_front.specs.Inputs.{Contents, AllHeld, files_as, contents_of}
 use Rattle.gt_front.specs.Picked.{Picked}
 use Rattle.gt_front.specs.Stages.{Stage}
-use Rattle.gt_front.specs.Recode.{Recodes, RecodesAgain}
+use Rattle.gt_front.specs.Recode.{Recodes, ReadsBack}
 use Rattle.gt_front.specs.Run.{Runs}
 
 -- a pass that is handed in; no job takes one yet
@@ -27,9 +27,9 @@ makes Recode settings passes contents = Recodes contents
 makes Run settings passes contents = Runs settings contents
 
 -- what is known besides of a job that is done with these contents
-abbrev pub Keeps : Job → Contents → Type 0
-Keeps Recode contents = RecodesAgain contents
-Keeps Run contents = Unit {0}
+abbrev pub Promises : Job → Contents → Type 0
+Promises Recode contents = ReadsBack contents
+Promises Run contents = Unit {0}
 
 -- a verdict over some files
 abbrev pub Outcomes : Type 1
@@ -46,9 +46,9 @@ Outcome None passes files verdict = ⊥
 Outcome (Some asked) passes files verdict = OutcomeOf asked passes files verdict
 
 -- what is known besides of the files where a job is done
-abbrev pub Assured : Option Picked → Files → Type 0
-Assured None files = Unit {0}
-Assured (Some asked) files = Keeps asked.job (contents_of asked files)
+abbrev pub Promised : Option Picked → Files → Type 0
+Promised None files = Unit {0}
+Promised (Some asked) files = Promises asked.job (contents_of asked files)
 
 -- the name of the file that a job writes, if the words give one
 abbrev pub out_of : Option Picked → Option (List ℕ)

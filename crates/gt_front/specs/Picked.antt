@@ -9,7 +9,7 @@ use Rattle.gt_front.specs.declared.table.WordName.TheVariants.{Out, Steps}
 use Rattle.gt_front.specs.declared.table.TheConstants.{STEPS}
 use Rattle.gt_front.specs.declared.words.Settings.{Settings}
 use Rattle.gt_front.specs.declared.words.Picked as declared
-use Rattle.gt_front.specs.Numbers.{bounded}
+use Rattle.gt_front.specs.Numbers.{bounded, IsWithin}
 use Rattle.gt_front.specs.Table.{job_named, role_word}
 use Rattle.gt_front.specs.Words.{value_of}
 
@@ -29,6 +29,10 @@ number_in name bounds words = unwrap_or (option_and_then (bounded bounds) (value
 -- what the words behind the job say that names no file
 abbrev pub settings_of : List (List ℕ) → Settings
 settings_of words = record { steps = number_in Steps STEPS words }
+
+-- each number is within its bounds
+abbrev pub InBounds : Settings → Type 0
+InBounds settings = IsWithin STEPS settings.steps
 
 -- what the words behind a job ask for
 abbrev pub asked : Job → List (List ℕ) → Settings → Picked

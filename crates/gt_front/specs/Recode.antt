@@ -27,5 +27,5 @@ pub record Means (bytes : List ℕ) (ir : Ir) : Type 0 where
   pub alone : (other : Ir) → file bytes other → other ≡ ir
 
 -- what is written means what was read, and nothing else
-abbrev pub RecodesAgain : Contents → Type 0
-RecodesAgain contents = (ir : Ir) → file (bytes_in contents In) ir → Means (canonical ir) ir
+abbrev pub ReadsBack : Contents → Type 0
+ReadsBack contents = (ir : Ir) → file (bytes_in contents In) ir → Means (canonical ir) ir

@@ -5,7 +5,7 @@ use Rattle.gt_front.specs.declared.answer.Answer.{Answer}
 use Rattle.gt_front.specs.declared.answer.Answer.TheVariants.{Done, Usage}
 use Rattle.gt_front.specs.Causes.{ReadFaultCause, TooLargeCause, WriteFaultCause, IsOwn, IsComplete, Kept, WritesNothing}
 use Rattle.gt_front.specs.Inputs.{inputs_of}
-use Rattle.gt_front.specs.Outcome.{Pass, Outcome, Assured, out_of}
+use Rattle.gt_front.specs.Outcome.{Pass, Outcome, Promised, out_of}
 use Rattle.gt_front.specs.Picked.{Picked}
 
 -- a desk around a call: its files, whether it is steady, and its counts
@@ -29,6 +29,6 @@ pub record Served (asked : Option Picked) (passes : List Pass) (desk : Around) (
   pub own : IsOwn (Outcome asked passes) desk.old result
   pub complete : IsComplete (inputs_of asked) (Outcome asked passes) desk.old desk.steady
       (Rose desk.read_before desk.read_now ⊎ Rose desk.write_before desk.write_now) result
-  pub assured : (text : List ℕ) → result ≡ Done text → Told desk.old (Assured asked)
+  pub promised : (text : List ℕ) → result ≡ Done text → Told desk.old (Promised asked)
   pub kept : ToldBoth desk.old desk.new (Kept (Outcome asked passes) (out_of asked) result)
   pub nothing : out_of asked ≡ None → ToldBoth desk.old desk.new (WritesNothing result)

@@ -71,10 +71,13 @@ same_name Out Out = true
 same_name Steps Steps = true
 same_name _ _ = false
 
+-- does a job require a word of this name
+abbrev pub requires : Job → WordName → Bool
+requires job name = list_any (λ given. same_name given name) (required_of job)
+
 -- does a job have words of this name
 abbrev pub takes : Job → WordName → Bool
-takes job name =
-    list_any (λ given. same_name given name) (required_of job) || list_any (λ given. same_name given name) (optional_of job)
+takes job name = requires job name || list_any (λ given. same_name given name) (optional_of job)
 
 -- the name whose word gives the file of this role
 abbrev pub role_word : Role → WordName

@@ -1,5 +1,5 @@
-ghost use Rattle.std.specs.Prelude.{◌≡◌, ◌≤◌, ◌^◌};
-ghost use Rattle.gt_front.specs.Numbers.{number_of, bounded};
+ghost use Rattle.std.specs.Prelude.{◌≡◌, ◌≤◌, ◌^◌, IfSome};
+ghost use Rattle.gt_front.specs.Numbers.{number_of, bounded, IsWithin};
 
 use crate::table::Bounds;
 
@@ -28,7 +28,8 @@ fn number(text: &str, most: u64) -> Option<u64>
 impl Bounds {
     /// The number of a word, if it is one within the bounds.
     pub fn number(self, text: &str) -> Option<u64>
-        ensures { result ≡ bounded self text.now }
+        ensures value { result ≡ bounded self text.now }
+        ensures within { IfSome result (IsWithin self) }
     {
         let value = number(text, MOST_NUMBER)?;
         if self.least <= value && value <= self.most {

@@ -4,7 +4,7 @@ ghost use Rattle.gt_model.specs.Ordered.{ordered};
 ghost use Rattle.gt_read.specs.File.{file};
 ghost use Rattle.gt_write.specs.Canonical.{canonical};
 ghost use Rattle.gt_front.specs.Reads.{contents_view};
-ghost use Rattle.gt_front.specs.Recode.{Recodes, RecodesAgain, Means, written, done_text};
+ghost use Rattle.gt_front.specs.Recode.{Recodes, ReadsBack, Means, written, done_text};
 ghost use Rattle.gt_front.specs.Stages.{Answers};
 
 use crate::answer::Role;
@@ -13,7 +13,7 @@ use crate::stages::read_ir;
 use crate::verdict::{Finished, Refusal};
 use gr_base::{Bytes, End, Text};
 use gt_model::Ir;
-use gt_write::laws::one_meaning;
+use gt_read::laws::one_meaning;
 use gt_write::write_file;
 use std::alloc::{AllocError, Global};
 
@@ -51,7 +51,7 @@ fn spelled(alloc: Global, ir: &Ir) -> Result<Finished, AllocError>
 /// Writes the file that is read canonically.
 pub fn recode(alloc: Global, contents: &Contents) -> Result<Finished, End<Refusal>>
     ensures stage { Answers (Recodes (contents_view contents.now)) result }
-    ensures again { OnOk result (RecodesAgain (contents_view contents.now)) }
+    ensures reads_back { OnOk result (ReadsBack (contents_view contents.now)) }
 {
     one_meaning();
     let ir = read_ir(alloc, contents.bytes(Role::In))?;

@@ -1,6 +1,7 @@
-ghost use Rattle.std.specs.Prelude.{◌≡◌, IfOk};
+ghost use Rattle.std.specs.Prelude.{◌≡◌, ◌≤◌, IfOk};
 ghost use Rattle.link_image.specs.Valid.{image_ok};
 ghost use Rattle.num_run.specs.Run.{num_run};
+ghost use Rattle.gt_front.specs.Picked.{InBounds};
 ghost use Rattle.gt_front.specs.Reads.{contents_view};
 ghost use Rattle.gt_front.specs.Run.{Runs, reported};
 ghost use Rattle.gt_front.specs.Stages.{Answers};
@@ -18,7 +19,8 @@ use std::alloc::{AllocError, Global};
 
 /// The output of a run, and the text that says where it stands.
 fn ran(alloc: Global, image: &Image, input: &[u8], steps: u64) -> Result<Finished, AllocError>
-    requires { image_ok image.now }
+    requires image { image_ok image.now }
+    requires steps { steps ≤ 10000000 }
     ensures { IfOk result (λ made. made ≡ reported (num_run image.now input.now steps)) }
 {
     let report = run_image(alloc, image, input, steps)?;
@@ -31,6 +33,7 @@ fn ran(alloc: Global, image: &Image, input: &[u8], steps: u64) -> Result<Finishe
 
 /// Runs the image that is read, and writes its output.
 pub fn run(alloc: Global, settings: Settings, contents: &Contents) -> Result<Finished, End<Refusal>>
+    requires { InBounds settings }
     ensures { Answers (Runs settings (contents_view contents.now)) result }
 {
     let image = image_in(alloc, contents.bytes(Role::In))?;

@@ -2,9 +2,9 @@ ghost use Rattle.std.specs.Prelude.{◌≡◌, ◌⊎◌, ◌↔◌, ℕ, List, 
 ghost use Rattle.gr_base.specs.Desk.{Told, ToldBoth, Rose};
 ghost use Rattle.gt_front.specs.declared.answer.Answer.TheVariants as answers;
 ghost use Rattle.gt_front.specs.Words.{Usage, WordsOk};
-ghost use Rattle.gt_front.specs.Picked.{picked, picked_view};
+ghost use Rattle.gt_front.specs.Picked.{picked, picked_view, InBounds};
 ghost use Rattle.gt_front.specs.Inputs.{inputs_of};
-ghost use Rattle.gt_front.specs.Outcome.{Outcome, Assured, Keeps, makes, out_of};
+ghost use Rattle.gt_front.specs.Outcome.{Outcome, Promised, Promises, makes, out_of};
 ghost use Rattle.gt_front.specs.Causes.{ReadFaultCause, TooLargeCause, WriteFaultCause, IsOwn, IsComplete, Kept, WritesNothing};
 ghost use Rattle.gt_front.specs.Reads.{contents_view};
 ghost use Rattle.gt_front.specs.Served.{Served};
@@ -24,8 +24,9 @@ use std::alloc::Global;
 
 /// Does a job with the contents of its inputs.
 fn make(alloc: Global, asked: &Picked<'_>, contents: &Contents) -> Result<Finished, End<Refusal>>
+    requires { InBounds asked.now.settings }
     ensures stage { Answers (makes asked.now.job asked.now.settings [] (contents_view contents.now)) result }
-    ensures keeps { OnOk result (Keeps asked.now.job (contents_view contents.now)) }
+    ensures promises { OnOk result (Promises asked.now.job (contents_view contents.now)) }
 {
     match asked.job {
         Job::Recode => recode(alloc, contents),
@@ -35,6 +36,7 @@ fn make(alloc: Global, asked: &Picked<'_>, contents: &Contents) -> Result<Finish
 
 /// Reads what the words name, does the job, and writes what it has made.
 fn serve_picked<D: Desk>(alloc: Global, asked: &Picked<'_>, desk: &mut D) -> Answer
+    requires { InBounds asked.now.settings }
     ensures { Served (Some (picked_view asked.now)) [] (record {
       old = D.files desk.old;
       new = D.files desk.new;
@@ -76,7 +78,7 @@ pub fn serve_words<D: Desk>(alloc: Global, words: &Seq<Text>, desk: &mut D) -> A
     ensures own { WordsOk words.now → IsOwn (Outcome (picked words.now) []) (D.files desk.old) result }
     ensures complete { WordsOk words.now → IsComplete (inputs_of (picked words.now)) (Outcome (picked words.now) []) (D.files desk.old) (D.steady desk.old)
         (Rose (D.read_faults desk.old) (D.read_faults desk.new) ⊎ Rose (D.write_faults desk.old) (D.write_faults desk.new)) result }
-    ensures assured { (text : List ℕ) → result ≡ Answer.Done text → Told (D.files desk.old) (Assured (picked words.now)) }
+    ensures promised { (text : List ℕ) → result ≡ Answer.Done text → Told (D.files desk.old) (Promised (picked words.now)) }
 
     // What the files hold afterwards.
     ensures kept { ToldBoth (D.files desk.old) (D.files desk.new) (Kept (Outcome (picked words.now) []) (out_of (picked words.now)) result) }

@@ -1,7 +1,8 @@
 ghost use Rattle.std.specs.Prelude.{◌≡◌, ◌<◌, length, IfSome, IfNone, IfErr, IfOk, take, slice_index_or, [], false};
 ghost use Rattle.std.specs.Option.{option_map};
 ghost use Rattle.gt_front.specs.Words.{fits, given_view, word_parts, value_at, value_of, is_fine, lacks_any, Usage, FineBelow, WordsOk};
-ghost use Rattle.gt_front.specs.Picked.{picked, picked_view, settings_of, number_in};
+ghost use Rattle.gt_front.specs.Picked.{picked, picked_view, settings_of, number_in, InBounds};
+ghost use Rattle.gt_front.specs.Numbers.{IsWithin};
 
 use crate::answer::Role;
 use crate::table::{Bounds, Job, Kind, STEPS, WordName};
@@ -133,17 +134,23 @@ impl<'a> Picked<'a> {
 
 /// The number that the words give a name, or the one that stands where none does.
 fn number_in(name: WordName, bounds: Bounds, words: &[Text]) -> u64
-    ensures { result ≡ number_in name bounds words.now }
+    requires { IsWithin bounds bounds.unsaid }
+    ensures value { result ≡ number_in name bounds words.now }
+    ensures within { IsWithin bounds result }
 {
     match value_in(name, words) {
-        Some(text) => bounds.number(text).unwrap_or(bounds.unsaid),
+        Some(text) => match bounds.number(text) {
+            Some(number) => number,
+            None => bounds.unsaid,
+        },
         None => bounds.unsaid,
     }
 }
 
 /// What the words behind the job say that names no file.
 fn settings_in(words: &[Text]) -> Settings
-    ensures { result ≡ settings_of words.now }
+    ensures value { result ≡ settings_of words.now }
+    ensures bounds { InBounds result }
 {
     Settings {
         steps: number_in(WordName::Steps, STEPS, words),
@@ -155,6 +162,7 @@ fn settings_in(words: &[Text]) -> Settings
 pub fn parse_words(words: &[Text]) -> Result<Picked<'_>, u64>
     ensures ok { IfOk result (λ asked. WordsOk words.now) }
     ensures picked { IfOk result (λ asked. picked words.now ≡ Some (picked_view asked)) }
+    ensures bounds { IfOk result (λ asked. InBounds asked.settings) }
     ensures usage { IfErr result (Usage words.now) }
 {
     if let Some(index) = first_bad(words) {

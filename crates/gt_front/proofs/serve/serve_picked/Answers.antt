@@ -17,7 +17,7 @@ returns-in-Err-Fault g c =
 pub returns-in-Ok-write_output : goal.returns-in-Ok-write_output
 returns-in-Ok-write_output g c =
     serves_done (picked_view c.args.asked.now) _ c.in-Ok.contents c.in-Ok.ensures.readable c.in-Ok.ensures.contents c.one_outcome.ensures
-    _ _ _ c.in-Ok.ensures.files c.in-Ok.ensures.steady c.in-Ok.ensures.write_later _ c.in-Ok-make.ensures.stage _ c.out.ensures _ c.in-Ok-make.ensures.keeps c.in-Ok-write_output.ensures
+    _ _ _ c.in-Ok.ensures.files c.in-Ok.ensures.steady c.in-Ok.ensures.write_later _ c.in-Ok-make.ensures.stage _ c.out.ensures _ c.in-Ok-make.ensures.promises c.in-Ok-write_output.ensures
 
 pub returns-in-Err-Fault-write_output : goal.returns-in-Err-Fault-write_output
 returns-in-Err-Fault-write_output g c =

@@ -18,7 +18,7 @@ returns-in-Ok g c =
       write_fault = λ fine. all.write_fault;
       own = λ fine. all.own;
       complete = λ fine. all.complete;
-      assured = all.assured;
+      promised = all.promised;
       kept = all.kept;
       nothing = all.nothing;
     }
@@ -36,7 +36,7 @@ returns-in-Err g c =
       write_fault = λ ok. absurd (ok_no_usage c.args.words.now c.in-Err.index ok bad);
       own = λ ok. absurd (ok_no_usage c.args.words.now c.in-Err.index ok bad);
       complete = λ ok. absurd (ok_no_usage c.args.words.now c.in-Err.index ok bad);
-      assured = λ text e. absurd cc;
+      promised = λ text e. absurd cc;
       kept = usage_kept (g.D.Desk.files c.args.desk.now) (Outcome (picked c.args.words.now) []) (out_of (picked c.args.words.now)) c.in-Err.index;
       nothing = λ none. usage_nothing (g.D.Desk.files c.args.desk.now) c.in-Err.index;
     }
