@@ -63,8 +63,17 @@ pub fn extended_operand(width: Width, option: u8, amount: u8, a: u64) -> u64
     if option % 4 == 3 && amount == 0 {
         a
     } else {
-        low(width, extended(width, option, a) << amount)
+        extended_and_shifted(width, option, amount, a)
     }
+}
+
+/// The low bits that an option names, extended and then shifted to the left.
+pub fn extended_and_shifted(width: Width, option: u8, amount: u8, a: u64) -> u64
+    requires option { option < 8 }
+    requires amount { amount < 8 }
+    ensures { result ≡ unary_value (Extend option amount) (bits_of width) a }
+{
+    low(width, extended(width, option, a) << amount)
 }
 
 // The low bits that an option names, extended.

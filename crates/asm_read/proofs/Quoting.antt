@@ -157,21 +157,12 @@ quoted_is text inside behind quote is = quote ∙ ap (λ (r : List ℕ). 34 ∷ 
 length_quoted : (inside : List ℕ) → length (bytes_of (Quoted inside)) ≡ length inside + 2
 length_quoted inside = omega (arith, length-append (34 ∷ inside) (34 ∷ []))
 
-pub quoted_long : (text inside behind : List ℕ) → text ≡ 34 ∷ drop 1 text → drop 1 text ≡ inside ++ 34 ∷ behind → length inside + 2 ≤ length text
-quoted_long text inside behind quote is = omega (arith, ap length (quoted_is text inside behind quote is), length-append (bytes_of (Quoted inside)) behind, length_quoted inside)
-
 pub quoted_found : (text inside behind front back : List ℕ) → text ≡ 34 ∷ drop 1 text → IsInside inside → drop 1 text ≡ inside ++ 34 ∷ behind → front ≡ take (length inside + 2) text → back ≡ drop (length inside + 2) text → Found text front back
 quoted_found text inside behind front back quote h is f g =
     let whole = quoted_is text inside behind quote is in
     let first : front ≡ bytes_of (Quoted inside) = f ∙ ap (take (length inside + 2)) whole ∙ take_at (bytes_of (Quoted inside)) behind (length inside + 2) (length_quoted inside) in
     let second : back ≡ behind = g ∙ ap (drop (length inside + 2)) whole ∙ drop_at (bytes_of (Quoted inside)) behind (length inside + 2) (length_quoted inside) in
     (Quoted inside, h, first, whole ∙ rw (first, second) refl)
-
-pub quoted_none : (text : List ℕ) → text ≡ 34 ∷ drop 1 text → ((inside behind : List ℕ) → IsInside inside → drop 1 text ≡ inside ++ 34 ∷ behind → ⊥) → (p : Piece) (behind : List ℕ) → IsPiece p → text ≡ bytes_of p ++ behind → ⊥
-quoted_none text quote none (Bare b) behind h e = h (let both : 34 ∷ drop 1 text ≡ b ∷ behind = sym quote ∙ e in let first : ◌≡◌ {A = ℕ} 34 b = cc in sym first)
-quoted_none text quote none (Quoted inside) behind h e =
-    let whole : 34 ∷ drop 1 text ≡ 34 ∷ (inside ++ 34 ∷ behind) = sym quote ∙ e ∙ simp append_assoc in
-    none inside behind h cc
 
 take_whole : (text : List ℕ) → take (length text) text ≡ text
 take_whole [] = refl

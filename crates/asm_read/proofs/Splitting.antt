@@ -55,9 +55,6 @@ last_words word = ap (λ (w : List ℕ). filter is_some_bytes (w ∷ [])) (sym (
 
 module _ (line : List ℕ) (words : List (List ℕ)) (word rest : List ℕ) (h : IsSplitting line words word rest) where
   module _ (ends : (rest ≡ []) ⊎ IsComment rest) where
-    pub end_found : HasWords line (words ++ filter is_some_bytes (word ∷ []))
-    end_found = h.sound (filter is_some_bytes (word ∷ [])) (record { pieces = []; comment = rest; parts = refl; each = tt; ends = ends; are = last_words word })
-
     pub end_only : (all : List (List ℕ)) → HasWords line all → words ++ filter is_some_bytes (word ∷ []) ≡ all
     end_only all has =
         let w = h.whole all has in

@@ -1,5 +1,5 @@
 -- Reading members, entries or parts one after another, as a loop does.
-use Rattle.std.proofs.Common.{◌≡◌, ℕ, zero, suc, ◌+◌, ◌-◌, ◌≤◌, ◌<◌, Bool, true, false, ◌||◌, cond, List, [], ◌∷◌, ◌++◌, length, take, drop, map, Result, Ok, Err, refl, sym, ap, ◌∙◌, arith}
+use Rattle.std.proofs.Common.{◌≡◌, ℕ, zero, suc, ◌+◌, ◌-◌, ◌≤◌, ◌<◌, Bool, true, false, ◌||◌, cond, List, [], ◌∷◌, ◌++◌, length, take, drop, map, Result, Ok, Err, refl, sym, ap, subst, ◌∙◌, ◌⊎◌, inl, inr, arith}
 use Rattle.std.specs.Prelude.{not}
 use Rattle.std.specs.List.{list_any}
 use Rattle.std.specs.Str.{bytes_eq}
@@ -12,8 +12,8 @@ use Rattle.aux_types.specs.Gives.{◌>>=◌, Fails}
 use Rattle.aux_types.specs.Shape.{Shape, Shapes, none, more, shapes, shape_of}
 use Rattle.aux_codec.specs.Value.{Value, Values, values, Entries, no_entry, entry, entries}
 use Rattle.aux_codec.specs.Value as v
-use Rattle.aux_codec.specs.Reading.{Read, place, members, distinct, pairs, value_at, parts_at}
-use Rattle.aux_codec.proofs.Units.{IsBytes}
+use Rattle.aux_codec.specs.Reading.{Read, place, members, unless_seen, fresh_at, distinct, pairs, value_at, parts_at}
+use Rattle.aux_codec.proofs.Units.{IsBytes, err_is, no_value}
 
 pub not_false : (b : Bool) → not b ≡ false → b ≡ true
 not_false true e = refl
@@ -107,6 +107,38 @@ module _ (inner : List ℕ → Read Value) (front : List Value) (count i : ℕ) 
       let one : with_front front (members inner (count - i) rest) ≡ Ok (values front, rest) = rw k (with_front-done front rest) in
       sym so_far ∙ one
 
+-- ---- values that weren't seen
+
+module _ (total : ℕ) (inner : List ℕ → Read Value) (spell : Value → List ℕ) (seen : List (List ℕ)) (bytes : List ℕ) where
+  abbrev Fresh : Value × List ℕ → Type 0
+  Fresh x = (inner bytes ≡ Ok x) × (list_any (bytes_eq (spell x.0)) seen ≡ false)
+
+  fresh_test : (x : Value × List ℕ) (b : Bool) → inner bytes ≡ Ok x → list_any (bytes_eq (spell x.0)) seen ≡ b → (y : Value × List ℕ) → cond b (Err (Duplicate (place total bytes))) (Ok x) ≡ Ok y → Fresh y
+  fresh_test x true is there y e = absurd cc
+  fresh_test x false is there y e = let same : x ≡ y = cc in subst Fresh same (is, there)
+
+  fresh_from : (r : Read Value) → inner bytes ≡ r → (y : Value × List ℕ) → (r >>= λ x. unless_seen total seen (spell x.0) bytes (Ok x)) ≡ Ok y → Fresh y
+  fresh_from (Ok x) is y e = fresh_test x (list_any (bytes_eq (spell x.0)) seen) is refl y e
+  fresh_from (Err f) is y e = absurd cc
+
+  pub fresh_ok : (y : Value × List ℕ) → fresh_at total inner spell seen bytes ≡ Ok y → Fresh y
+  fresh_ok y e = fresh_from (inner bytes) refl y e
+
+  -- the fault of the value, or that of one that was seen
+  abbrev Refused : AuxFault → Type 0
+  Refused f = (inner bytes ≡ Err f) ⊎ ((x : Value × List ℕ) × (inner bytes ≡ Ok x) × (list_any (bytes_eq (spell x.0)) seen ≡ true) × (Duplicate (place total bytes) ≡ f))
+
+  twice_test : (x : Value × List ℕ) (b : Bool) → inner bytes ≡ Ok x → list_any (bytes_eq (spell x.0)) seen ≡ b → (f : AuxFault) → cond b (Err (Duplicate (place total bytes))) (Ok x) ≡ Err f → Refused f
+  twice_test x true is there f e = inr (x, is, there, err_is {A = Value × List ℕ} (Duplicate (place total bytes)) f e)
+  twice_test x false is there f e = absurd (no_value x f e)
+
+  twice_from : (r : Read Value) → inner bytes ≡ r → (f : AuxFault) → (r >>= λ x. unless_seen total seen (spell x.0) bytes (Ok x)) ≡ Err f → Refused f
+  twice_from (Ok x) is f e = twice_test x (list_any (bytes_eq (spell x.0)) seen) is refl f e
+  twice_from (Err g) is f e = inl (is ∙ e)
+
+  pub fresh_err : (f : AuxFault) → fresh_at total inner spell seen bytes ≡ Err f → Refused f
+  fresh_err f e = twice_from (inner bytes) refl f e
+
 -- ---- members of a set, with an index of their bytes
 
 -- the index has what the list has
@@ -154,6 +186,14 @@ module _ (total : ℕ) (inner : List ℕ → Read Value) (spell : Value → List
         rw (k, h, fresh) (with_front-more front x (distinct total inner spell (spell x ∷ left.seen) (count - (i + 1)) after)) in
         record { fits = fits; seen = spell x ∷ left.seen; same = HasSame-add index new left.seen (spell x) has left.same; so_far = sym one ∙ left.so_far }
 
+    pub distinct_refused : (e : End AuxFault) → i < count → Fails e (fresh_at total inner spell index rest) → Fails e known
+    distinct_refused ends.Memory lt h = tt
+    distinct_refused (ends.Fault f) lt h =
+        elim (fresh_err total inner spell index rest f h) [
+          | inl e ↦ distinct_fail (ends.Fault f) lt e
+          | inr e ↦ distinct_twice e.0.0 e.0.1 lt e.1 e.2 ∙ ap (λ (g : AuxFault). Err g) e.3
+        ]
+
     pub distinct_done : count ≤ i → known ≡ Ok (values front, rest)
     unfolding distinct
     distinct_done le =
@@ -190,6 +230,14 @@ module _ (total : ℕ) (key : List ℕ → Read Value) (spell : Value → List �
         let again : list_any (bytes_eq (spell x)) left.seen ≡ true = sym (left.same (spell x)) ∙ there in
         let one : with_entries front (pairs total key spell inner left.seen (count - i) rest) ≡ Err (Duplicate (place total rest)) = rw (k, h, again) refl in
         sym left.so_far ∙ one
+
+    pub pairs_refused : (e : End AuxFault) → i < count → Fails e (fresh_at total key spell index rest) → Fails e known
+    pairs_refused ends.Memory lt h = tt
+    pairs_refused (ends.Fault f) lt h =
+        elim (fresh_err total key spell index rest f h) [
+          | inl e ↦ pairs_fail (ends.Fault f) lt e
+          | inr e ↦ pairs_twice e.0.0 e.0.1 lt e.1 e.2 ∙ ap (λ (g : AuxFault). Err g) e.3
+        ]
 
     pub pairs_value_fail : (x : Value) (after : List ℕ) (e : End AuxFault) → i < count → key rest ≡ Ok (x, after) → list_any (bytes_eq (spell x)) index ≡ false → Fails e (inner after) → Fails e known
     unfolding pairs

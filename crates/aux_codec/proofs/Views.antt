@@ -14,15 +14,6 @@ seen x = fold-roll-AuxValue Value (Value × Value) value_layer entry_layer x
 pub value_str : (text : List ℕ) → value_of (a.Str text) ≡ Str text
 value_str text = ap value_of (sym (a.rolls-Str text)) ∙ seen (AuxValue-F.Str text)
 
-pub value_many : (xs : Vec AuxValue) → value_of (a.Many xs) ≡ Many (values (map value_of xs.items))
-value_many xs = ap value_of (sym (a.rolls-Many xs)) ∙ seen (AuxValue-F.Many xs)
-
-pub value_pairs : (es : Vec AuxPair) → value_of (a.Pairs es) ≡ Pairs (entries (map entry_of es.items))
-value_pairs es = ap value_of (sym (a.rolls-Pairs es)) ∙ seen (AuxValue-F.Pairs es)
-
-pub value_parts : (xs : Vec AuxValue) → value_of (a.Parts xs) ≡ Parts (values (map value_of xs.items))
-value_parts xs = ap value_of (sym (a.rolls-Parts xs)) ∙ seen (AuxValue-F.Parts xs)
-
 pub value_choice : (n : ℕ) (x : Box AuxValue) → value_of (a.Choice n x) ≡ Choice n (value_of x.value)
 value_choice n x = ap value_of (sym (a.rolls-Choice n x)) ∙ seen (AuxValue-F.Choice n x)
 

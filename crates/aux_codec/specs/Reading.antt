@@ -84,6 +84,10 @@ members inner (suc n) bytes = do
 abbrev pub unless_seen : {A : Type 0} → ℕ → List (List ℕ) → List ℕ → List ℕ → Read A → Read A
 unless_seen total seen spelled bytes next = if list_any (bytes_eq spelled) seen then Err (Duplicate (place total bytes)) else next
 
+-- a value, unless an earlier one had its bytes
+abbrev pub fresh_at : ℕ → (List ℕ → Read Value) → (Value → List ℕ) → List (List ℕ) → List ℕ → Read Value
+fresh_at total inner spell seen bytes = inner bytes >>= λ x. unless_seen total seen (spell x.0) bytes (Ok x)
+
 -- so many members, none with the bytes of an earlier one
 unfoldable pub distinct : ℕ → (List ℕ → Read Value) → (Value → List ℕ) → List (List ℕ) → ℕ → List ℕ → Read Values
 distinct total inner spell seen zero bytes = Ok (v.none, bytes)

@@ -1,9 +1,11 @@
-ghost use Rattle.std.specs.Prelude.{◌≡◌, ◌≤◌, ◌-◌, [], length, map, take, Ok, IfOk};
+ghost use Rattle.std.specs.Prelude.{◌≡◌, ◌≤◌, ◌-◌, ◌||◌, ℕ, List, [], length, map, take, Ok, IfOk};
+ghost use Rattle.std.specs.List.{list_any};
+ghost use Rattle.std.specs.Str.{bytes_eq};
 ghost use Rattle.aux_types.specs.Gives.{Gives};
 ghost use Rattle.aux_types.specs.Shape.{Sequence, Set, Mapping, Tuple, Variant, shape_of, shapes, IsNamed};
 ghost use Rattle.aux_codec.specs.Value.{Value, value_of, entry_of, values, entries};
 ghost use Rattle.aux_codec.specs.Spelling.{spelling, aux_bytes};
-ghost use Rattle.aux_codec.specs.Reading.{members, distinct, pairs, parts_at, value_at, read_value};
+ghost use Rattle.aux_codec.specs.Reading.{fresh_at, members, distinct, pairs, parts_at, value_at, read_value};
 
 use crate::part::part;
 use crate::scalar::scalar_at;
@@ -43,6 +45,25 @@ fn members<'a>(
     Ok((found, rest))
 }
 
+/// The value at the front, unless one with its bytes was seen before. It is seen from then on.
+#[cycle(value_at)]
+fn fresh_at<'a>(
+    alloc: Global,
+    total: usize,
+    of: &AuxType,
+    seen: &mut Seen<'a>,
+    bytes: &'a [u8],
+) -> Read<'a, AuxValue>
+    ensures read { Gives (λ x. (value_of x.0, x.1.now)) result (fresh_at total (value_at total (shape_of of.now)) (spelling (shape_of of.now)) seen.old bytes.now) }
+    ensures has { IfOk result (λ x. (q : List ℕ) → list_any (bytes_eq q) seen.new ≡ (bytes_eq q (spelling (shape_of of.now) (value_of x.0)) || list_any (bytes_eq q) seen.old)) }
+{
+    let (value, after) = value_at(alloc, total, of, bytes)?;
+    if !seen.insert(taken(bytes, after))? {
+        return Err(End::Fault(AuxFault::Duplicate(place(total, bytes))));
+    }
+    Ok((value, after))
+}
+
 /// So many members, none of which comes twice.
 #[cycle(value_at)]
 fn distinct<'a>(
@@ -58,10 +79,7 @@ fn distinct<'a>(
     let mut seen = Seen::new(alloc);
     let mut rest = bytes;
     for _ in 0..count {
-        let (value, after) = value_at(alloc, total, of, rest)?;
-        if !seen.insert(taken(rest, after))? {
-            return Err(End::Fault(AuxFault::Duplicate(place(total, rest))));
-        }
+        let (value, after) = fresh_at(alloc, total, of, &mut seen, rest)?;
         found.push(value)?;
         rest = after;
     }
@@ -90,10 +108,7 @@ fn pairs<'a>(
     let mut seen = Seen::new(alloc);
     let mut rest = bytes;
     for _ in 0..count {
-        let (key, after) = value_at(alloc, total, key_type, rest)?;
-        if !seen.insert(taken(rest, after))? {
-            return Err(End::Fault(AuxFault::Duplicate(place(total, rest))));
-        }
+        let (key, after) = fresh_at(alloc, total, key_type, &mut seen, rest)?;
         let (value, after) = value_at(alloc, total, value_type, after)?;
         found.push(pair(key, value))?;
         rest = after;

@@ -11,27 +11,6 @@ told_both (Some a) None new P Q R join p q = absurd p
 told_both (Some a) (Some b) None P Q R join p q = q
 told_both (Some a) (Some b) (Some c) P Q R join p q = join a b c p q
 
--- a fact about one call that follows from another
-pub told_both_as : (old new : Option Files) (P Q : Files → Files → Type 0) → ((a b : Files) → P a b → Q a b) → ToldBoth old new P → ToldBoth old new Q
-told_both_as None None P Q turn p = tt
-told_both_as None (Some b) P Q turn p = p
-told_both_as (Some a) None P Q turn p = p
-told_both_as (Some a) (Some b) P Q turn p = turn a b p
-
--- a call that makes a fact of a fact
-pub told_both_from : (old new : Option Files) (P : Files → Type 0) (Q R : Files → Files → Type 0) → ((a b : Files) → P a → Q a b → R a b) → Told old P → ToldBoth old new Q → ToldBoth old new R
-told_both_from None None P Q R join p q = tt
-told_both_from None (Some b) P Q R join p q = q
-told_both_from (Some a) None P Q R join p q = q
-told_both_from (Some a) (Some b) P Q R join p q = join a b p q
-
--- what a call leaves as a fact
-pub told_after : (old new : Option Files) (P : Files → Files → Type 0) (Q : Files → Type 0) → ((a b : Files) → P a b → Q b) → ToldBoth old new P → Told new Q
-told_after None None P Q turn p = tt
-told_after None (Some b) P Q turn p = absurd p
-told_after (Some a) None P Q turn p = tt
-told_after (Some a) (Some b) P Q turn p = turn a b p
-
 -- no call yet
 pub told_none : (files : Option Files) (P : Files → Type 0) (Q : Files → Files → Type 0) → ((a : Files) → P a → Q a a) → Told files P → ToldBoth files files Q
 told_none None P Q turn p = tt

@@ -1,5 +1,5 @@
 -- The meaning of a body is the value of an IR: of each oneof one member at most is set.
-use Rattle.std.proofs.Common.{◌≡◌, ◌≢◌, ℕ, ℤ, Bool, true, false, cond, eqb, List, [], ◌∷◌, map, Option, Some, None, refl, sym, ap, ◌∙◌, inl, inr}
+use Rattle.std.proofs.Common.{◌≡◌, ◌≢◌, ℕ, ℤ, Bool, true, false, cond, List, [], ◌∷◌, map, Option, Some, None, refl, sym, ap, ◌∙◌, inl, inr}
 use Rattle.std.specs.Prelude.{◌⊎◌, ◌==◌, ◌&&◌, unwrap_or}
 use Rattle.std.specs.declared.cmp.Ordering.{Ordering}
 use Rattle.std.specs.declared.cmp.Ordering.TheVariants.{Less, Equal, Greater}
@@ -8,24 +8,13 @@ use Rattle.std.specs.BTreeMap.{insert_entry}
 use Rattle.std.specs.List.{AllByRecursion, filter, filter_map, fold, list_all}
 use Rattle.std.specs.Option.{option_map}
 use Rattle.std.proofs.lemmas.Bool.{eqb-true}
-use Rattle.gt_model.specs.declared.edges.Cfg.{Cfg}
-use Rattle.gt_model.specs.declared.edges.Edge.{Edge}
-use Rattle.gt_model.specs.declared.edges.Label.{Label}
-use Rattle.gt_model.specs.declared.exprs.Expr.{Expr}
 use Rattle.gt_model.specs.declared.exprs.ExprValue.{ExprValue}
 use Rattle.gt_model.specs.declared.exprs.ExprValue.TheVariants as values
-use Rattle.gt_model.specs.declared.intervals.Block.{Block}
 use Rattle.gt_model.specs.declared.intervals.Body.{Body}
 use Rattle.gt_model.specs.declared.intervals.Body.TheVariants as bodies
-use Rattle.gt_model.specs.declared.intervals.Interval.{Interval}
-use Rattle.gt_model.specs.declared.ir.Ir.{Ir}
-use Rattle.gt_model.specs.declared.modules.Module.{Module}
-use Rattle.gt_model.specs.declared.modules.Section.{Section}
 use Rattle.gt_model.specs.declared.symbols.Payload.{Payload}
 use Rattle.gt_model.specs.declared.symbols.Payload.TheVariants as payloads
-use Rattle.gt_model.specs.declared.symbols.Symbol.{Symbol}
-use Rattle.gt_model.specs.declared.tables.Aux.{Aux}
-use Rattle.gt_model.specs.Schema.{Kind, Id, Unsigned64, Key, TextKey, NumberKey, key_kind, Members, Rows, expr_values, symbol_payloads, block_bodies, table_rows, label_rows, edge_rows, cfg_rows, addr_addr_rows, addr_const_rows, expr_rows, symbol_rows, proxy_rows, data_rows, code_rows, block_rows, interval_rows, section_rows, module_rows, ir_rows}
+use Rattle.gt_model.specs.Schema.{Kind, Id, Unsigned64, NumberKey, Members, Rows, expr_values, symbol_payloads, block_bodies, table_rows, label_rows, edge_rows, cfg_rows, addr_addr_rows, addr_const_rows, expr_rows, symbol_rows, proxy_rows, data_rows, code_rows, block_rows, interval_rows, section_rows, module_rows, ir_rows}
 use Rattle.gt_model.specs.Values.{Fields, Plain}
 use Rattle.gt_model.specs.Views.{table_fields, table_entry, label_value, edge_value, cfg_value, addr_const_fields, addr_addr_fields, addr_const_value, addr_addr_value, expr_fields, expr_entry, number_of, referent_of, symbol_value, proxy_value, code_fields, data_fields, code_value, data_value, block_value, interval_value, section_value, module_value, ir_value}
 use Rattle.gt_read.specs.Pieces.{Piece}

@@ -1,5 +1,5 @@
 -- A file that was read.
-use Rattle.std.proofs.Common.{◌≡◌, ◌≤◌, ◌<◌, ◌-◌, ℕ, take, drop, List, [], ◌∷◌, length, Option, Some, None, Bool, true, false, cond, leb, refl, sym, ap, subst, ◌∙◌, arith}
+use Rattle.std.proofs.Common.{◌≡◌, ◌≤◌, ◌-◌, ℕ, take, drop, List, [], ◌∷◌, length, Option, Some, None, Bool, true, false, cond, leb, refl, sym, ap, subst, ◌∙◌, arith}
 use Rattle.std.proofs.lemmas.Bool.{eq-eqb}
 use Rattle.std.proofs.lemmas.List.{take_all, length-drop}
 use Rattle.gt_model.specs.Values.{Fields, Plain}

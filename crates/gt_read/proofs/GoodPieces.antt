@@ -9,8 +9,8 @@ use Rattle.pb_wire.specs.Reading.{varint_of, record_of}
 use Rattle.pb_wire.specs.Records.{IsPayload, Spells}
 use Rattle.pb_wire.specs.Varint.{IsVarint}
 use Rattle.gt_model.specs.Typed.{AreBytes}
-use Rattle.gt_read.specs.Pieces.{Carried, Number, Bytes, Fixed, Piece, Walk, carried_of, piece_of, put_first, walk_on, walk_within, pieces}
-use Rattle.gt_read.specs.Kinds.{Packed, put_number, packed_on, packed_within, packed}
+use Rattle.gt_read.specs.Pieces.{Carried, Number, Bytes, Fixed, Piece, carried_of, piece_of, put_first, walk_on, walk_within, pieces}
+use Rattle.gt_read.specs.Kinds.{put_number, packed_on, packed_within, packed}
 
 abbrev pub GoodCarried : Carried → Type 0
 GoodCarried (Number n) = n < 2 ^ 64
@@ -31,7 +31,7 @@ taken zero bytes b = tt
 taken (suc n) [] b = tt
 taken (suc n) (x ∷ xs) b = (b.0, taken n xs b.1)
 
-dropped : (n : ℕ) (bytes : List ℕ) → AreBytes bytes → AreBytes (drop n bytes)
+pub dropped : (n : ℕ) (bytes : List ℕ) → AreBytes bytes → AreBytes (drop n bytes)
 dropped zero bytes b = b
 dropped (suc n) [] b = tt
 dropped (suc n) (x ∷ xs) b = dropped n xs b.1
@@ -42,7 +42,7 @@ are_bytes [] h = tt
 are_bytes (b ∷ bs) h = (h 0, are_bytes bs (λ i. h (suc i)))
 
 module _ (read : ReadIsSpelled) where
-  carried_good : (bytes : List ℕ) (base : ℕ) (load : Load) (payload : List ℕ) (at : ℕ) → AreBytes bytes → IsPayload load payload at → GoodCarried (carried_of bytes base load)
+  pub carried_good : (bytes : List ℕ) (base : ℕ) (load : Load) (payload : List ℕ) (at : ℕ) → AreBytes bytes → IsPayload load payload at → GoodCarried (carried_of bytes base load)
   carried_good bytes base (loads.Varint n) payload at b p = read.small payload n p
   carried_good bytes base (loads.Eight n) payload at b p = tt
   carried_good bytes base (loads.Run span) payload at b p = taken span.len (drop (span.start - base) bytes) (dropped (span.start - base) bytes b)

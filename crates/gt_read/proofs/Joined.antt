@@ -1,7 +1,7 @@
 -- The meaning of two lists of an IR's records, one behind the other.
-use Rattle.std.proofs.Common.{◌≡◌, ℕ, Bool, true, false, cond, eqb, List, [], ◌∷◌, ◌++◌, map, Option, Some, None, refl, sym, ap, ◌∙◌}
+use Rattle.std.proofs.Common.{◌≡◌, ℕ, cond, eqb, List, [], ◌∷◌, ◌++◌, map, Option, Some, None, refl, ap, ◌∙◌}
 use Rattle.std.specs.Prelude.{unwrap_or, is_some}
-use Rattle.std.specs.List.{filter, filter_map, flat_map}
+use Rattle.std.specs.List.{filter_map, flat_map}
 use Rattle.std.proofs.lemmas.Cmp.{nat_list_cmp_total}
 use Rattle.std.specs.Ordering.{nat_cmp}
 use Rattle.std.specs.Cmp.Lexicographic.{slice_cmp}
@@ -9,7 +9,6 @@ use Rattle.std.proofs.lemmas.List.{append-nil, map-append}
 use Rattle.std.proofs.lemmas.List.Concat.{flat_map-append}
 use Rattle.std.proofs.lemmas.List.Elements.{filter-append, filter_map-append}
 use Rattle.gt_model.specs.Schema.{Kind, Id, Unsigned32, TextKey, cfg_rows, ir_rows, edge_rows, module_rows, table_rows}
-use Rattle.gt_model.specs.Values.{Fields}
 use Rattle.gt_read.specs.Pieces.{Piece, pieces}
 use Rattle.gt_read.specs.Kinds.{Read, value_of, values_of, of_number, Run, run_of}
 use Rattle.gt_read.specs.Meaning.{last, last_value, joined, joined_message, alone, map_of, key_cmp, entry_of, meaning}

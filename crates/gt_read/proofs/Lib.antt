@@ -27,3 +27,4 @@ pub mod TypedIr
 pub mod Entered
 pub mod Joined
 pub mod KeyOrders
+pub mod InOrder

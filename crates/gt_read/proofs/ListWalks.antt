@@ -7,9 +7,9 @@ use Rattle.pb_wire.specs.declared.records.Load.TheVariants as loads
 use Rattle.pb_wire.specs.declared.records.Record.{Record}
 use Rattle.pb_wire.specs.declared.records.Span.{Span}
 use Rattle.pb_wire.specs.Ahead.{Ahead}
-use Rattle.pb_wire.specs.Records.{records, IsPayload, Spells, Takes, content_of}
+use Rattle.pb_wire.specs.Records.{records, IsPayload, Takes, content_of}
 use Rattle.pb_wire.specs.Faults.{wire_fault}
-use Rattle.gt_read.specs.Pieces.{Bytes, Piece, piece_of, Walk, walk, pieces, broken}
+use Rattle.gt_read.specs.Pieces.{Bytes, piece_of, Walk, walk, pieces, broken}
 use Rattle.gt_read.proofs.Walks.{OneRecord, walk_takes, walk_fails, walk-nil}
 use Rattle.gt_read.proofs.Merging.{behind}
 

@@ -1,5 +1,5 @@
 -- Bytes without a fault mean an IR.
-use Rattle.std.proofs.Common.{◌≡◌, ℕ, Bool, true, false, cond, eqb, List, [], ◌∷◌, Option, Some, None, refl, sym, ap, ◌∙◌}
+use Rattle.std.proofs.Common.{◌≡◌, ℕ, Bool, true, false, cond, eqb, List, [], ◌∷◌, Option, Some, None, refl, sym}
 use Rattle.std.specs.Option.{option_map}
 use Rattle.std.proofs.lemmas.Bool.{eqb-true}
 use Rattle.gt_model.specs.declared.ir.Ir.{Ir}
@@ -9,7 +9,7 @@ use Rattle.gt_read.specs.declared.fault.FormatFault.{FormatFault}
 use Rattle.gt_read.specs.declared.fault.FormatFault.TheVariants.{Version, UuidLength}
 use Rattle.gt_read.specs.declared.ids.IdFault.{IdFault}
 use Rattle.gt_read.specs.Pieces.{pieces}
-use Rattle.gt_read.specs.Identifiers.{bad, least, plain}
+use Rattle.gt_read.specs.Identifiers.{plain}
 use Rattle.gt_read.specs.Faults.{faults, first_of}
 use Rattle.gt_read.specs.File.{file, format_fault, prefix_fault, body_fault, id_fault, version_of, version_fault, version_byte, body_of, body_at, body_meaning, or_else}
 use Rattle.gt_read.specs.Drafts.Bodies.{IsBody}

@@ -1,5 +1,5 @@
 -- Bytes mean one IR at most, and bytes that mean one have no fault.
-use Rattle.std.proofs.Common.{◌≡◌, ◌≤◌, ℕ, List, [], ◌∷◌, ◌++◌, length, cond, Option, Some, None, refl, sym, ap, subst, ◌∙◌, arith}
+use Rattle.std.proofs.Common.{◌≡◌, ◌≤◌, ℕ, List, [], length, cond, Option, Some, None, sym, ap, subst, ◌∙◌, arith}
 use Rattle.std.specs.Option.{option_map}
 use Rattle.std.proofs.lemmas.Bool.{eq-eqb}
 use Rattle.gt_model.specs.declared.ir.Ir.{Ir}
@@ -7,7 +7,7 @@ use Rattle.gt_model.specs.Schema.{ir_rows}
 use Rattle.gt_model.specs.Values.{Fields, Plain}
 use Rattle.gt_model.specs.Views.{ir_value}
 use Rattle.gt_read.specs.declared.fault.FormatFault.{FormatFault}
-use Rattle.gt_read.specs.declared.fault.FormatFault.TheVariants.{Prefix, Version, UuidLength}
+use Rattle.gt_read.specs.declared.fault.FormatFault.TheVariants.{Version, UuidLength}
 use Rattle.gt_read.specs.declared.ids.IdFault.{IdFault}
 use Rattle.gt_read.specs.Faults.{faults, first_of}
 use Rattle.gt_read.specs.Identifiers.{bad, least, plain}

@@ -1,5 +1,5 @@
 -- An IR that is the meaning of bytes is typed.
-use Rattle.std.proofs.Common.{◌≡◌, ◌<◌, ℕ, ℤ, Bool, List, [], ◌∷◌, map, Option, Some, None, refl, sym, ap, subst, ◌∙◌}
+use Rattle.std.proofs.Common.{◌≡◌, ◌<◌, ℕ, ℤ, Bool, List, [], ◌∷◌, map, Option, Some, None, subst}
 use Rattle.std.specs.Prelude.{IfSome, IsUtf8}
 use Rattle.std.specs.List.{AllByRecursion}
 use Rattle.std.specs.Option.{option_map}
@@ -25,9 +25,7 @@ use Rattle.gt_model.specs.Typed.{AreBytes, IsId, IsU64, IsI64, IsI32, typed_valu
 use Rattle.gt_model.specs.Values.{Fields, Plain}
 use Rattle.gt_model.specs.Views.{table_fields, table_entry, label_value, edge_value, cfg_value, addr_const_fields, addr_addr_fields, expr_fields, expr_entry, symbol_value, proxy_value, code_fields, data_fields, block_value, interval_value, section_value, module_value, ir_value}
 use Rattle.gt_read.specs.File.{file, body_at, body_meaning}
-use Rattle.gt_read.specs.Faults.{faults, piece_faults, broken_faults}
-use Rattle.gt_read.specs.Identifiers.{bad, plain}
-use Rattle.gt_read.specs.Meaning.{meaning}
+use Rattle.gt_read.specs.Faults.{piece_faults, broken_faults}
 use Rattle.gt_read.specs.Pieces.{pieces, broken}
 use Rattle.gt_read.proofs.GoodPieces.{GoodPiece, ReadIsSpelled, pieces_good}
 use Rattle.gt_read.proofs.TypedMeaning.{RowsTyped, rows_typed, append_none, each_none, all_two}

@@ -1,6 +1,6 @@
 -- The values of a meaning are of their kinds: numbers fit, texts are UTF-8, identifiers have sixteen bytes.
 use Rattle.std.proofs.Common.{◌≡◌, ℕ, ℤ, pos, negsuc, ◌^◌, ◌<◌, Bool, true, false, cond, eqb, List, [], ◌∷◌, ◌++◌, map, length, Option, Some, None, refl, sym, ap, subst, ◌∙◌, arith, replicate}
-use Rattle.std.specs.Prelude.{◌||◌, ◌&&◌, IfSome, IsUtf8, unwrap_or}
+use Rattle.std.specs.Prelude.{◌&&◌, IfSome, IsUtf8, unwrap_or}
 use Rattle.std.specs.Str.{is_utf8}
 use Rattle.std.specs.declared.cmp.Ordering.{Ordering}
 use Rattle.std.specs.declared.cmp.Ordering.TheVariants.{Less, Equal, Greater}
@@ -18,7 +18,6 @@ use Rattle.gt_model.specs.Typed.{AreBytes, IsId, IsU64, IsI64, IsI32}
 use Rattle.gt_model.specs.Values.{Field, Fields, Plain}
 use Rattle.gt_read.specs.declared.fault.FormatFault.{FormatFault}
 use Rattle.gt_read.specs.declared.fault.FormatFault.TheVariants.{Utf8}
-use Rattle.gt_read.specs.declared.ids.IdFault.{IdFault}
 use Rattle.gt_read.specs.Pieces.{Carried, Number, Bytes, Fixed, Piece, pieces, broken}
 use Rattle.gt_read.specs.Kinds.{Located, Read, low32, from_varint, from_bytes, from_carried, value_of, absent, packed, is_varint_kind, values_in, values_of, of_number, Run, run_in, run_of}
 use Rattle.gt_read.specs.Meaning.{last, last_value, joined, joined_message, alone, trailing, is_member, last_turn, key_cmp, map_of, entry_of, meaning, field_meaning}

@@ -3,6 +3,7 @@ pub mod Kinds
 pub mod Meaning
 pub mod Faults
 pub mod Identifiers
+pub mod Places
 pub mod File
 pub mod Joining
 pub mod Reading

@@ -1,70 +1,61 @@
-ghost use Rattle.std.specs.Prelude.{◌≡◌, IfOk};
+ghost use Rattle.std.specs.Prelude.{IfOk};
 ghost use Rattle.gt_model.specs.Schema.{code_rows, data_rows, block_rows};
 ghost use Rattle.gt_model.specs.Views.{block_value};
-ghost use Rattle.gt_read.specs.Drafts.Views.{code_draft, data_draft, block_draft, code_parts, data_parts, code_of, data_of, FinishesBody, TakesCode, TakesData};
-ghost use Rattle.gt_read.specs.Faults.{piece_faults, message_faults, in_run};
-ghost use Rattle.gt_read.specs.Kinds.{run_of};
-ghost use Rattle.gt_read.specs.Drafts.Answers.{piece, Answers, Starts, Steps, Finishes};
+ghost use Rattle.gt_read.specs.Drafts.Views.{code_draft, data_draft, block_draft, code_parts, data_parts, code_of, data_of, FinishesBody};
+ghost use Rattle.gt_read.specs.declared.block_drafts.BodyDraft.TheVariants as bodies;
+ghost use Rattle.gt_read.specs.Faults.{piece_faults};
+ghost use Rattle.gt_read.specs.Drafts.Answers.{Starts, Steps, Finishes};
 
 use crate::block_drafts::{BlockDraft, BodyDraft, CodeDraft, CodeParts, DataDraft, DataParts};
-use crate::children::enter;
+use crate::children::{OneOf, take_member};
 use crate::fault::FormatFault;
 use crate::ids::{IdFault, Identifier};
 use crate::message::Message;
-use crate::pieces::{Carried, Piece};
+use crate::pieces::Piece;
 use crate::slots::take_unsigned;
 use gr_base::End;
 use gt_model::{Block, Body};
 use std::alloc::{AllocError, Global};
-use std::mem;
 
-fn into_code(body: BodyDraft) -> Option<CodeDraft>
-    ensures { result ≡ code_of body }
-{
-    match body {
-        BodyDraft::Code(draft) => Some(draft),
-        BodyDraft::Bare | BodyDraft::Data(_) => None,
+impl OneOf<CodeDraft> for BodyDraft {
+    ghost member = { code_of };
+
+    ghost made = { bodies.Code };
+
+    fn unset() -> BodyDraft {
+        BodyDraft::Bare
     }
-}
 
-fn into_data(body: BodyDraft) -> Option<DataDraft>
-    ensures { result ≡ data_of body }
-{
-    match body {
-        BodyDraft::Data(draft) => Some(draft),
-        BodyDraft::Bare | BodyDraft::Code(_) => None,
-    }
-}
-
-fn take_code(alloc: Global, body: &mut BodyDraft, part: &Piece<'_>) -> Result<(), End<FormatFault>>
-    ensures { Answers result (in_run (λ place start bytes. message_faults (piece_faults code_rows) bytes start) part.now.place (piece part.now).carried)
-        (λ _. TakesCode body.old (run_of (piece part.now)) body.new) }
-{
-    match &part.carried {
-        Carried::Number(_) => Ok(()),
-        Carried::Fixed => Ok(()),
-        Carried::Bytes(run) => {
-            let old = into_code(mem::replace(body, BodyDraft::Bare));
-            let draft = enter(alloc, old, part.place, run)?;
-            *body = BodyDraft::Code(draft);
-            Ok(())
+    fn into_member(self) -> Option<CodeDraft> {
+        match self {
+            BodyDraft::Code(draft) => Some(draft),
+            BodyDraft::Bare | BodyDraft::Data(_) => None,
         }
     }
+
+    fn of(message: CodeDraft) -> BodyDraft {
+        BodyDraft::Code(message)
+    }
 }
 
-fn take_data(alloc: Global, body: &mut BodyDraft, part: &Piece<'_>) -> Result<(), End<FormatFault>>
-    ensures { Answers result (in_run (λ place start bytes. message_faults (piece_faults data_rows) bytes start) part.now.place (piece part.now).carried)
-        (λ _. TakesData body.old (run_of (piece part.now)) body.new) }
-{
-    match &part.carried {
-        Carried::Number(_) => Ok(()),
-        Carried::Fixed => Ok(()),
-        Carried::Bytes(run) => {
-            let old = into_data(mem::replace(body, BodyDraft::Bare));
-            let draft = enter(alloc, old, part.place, run)?;
-            *body = BodyDraft::Data(draft);
-            Ok(())
+impl OneOf<DataDraft> for BodyDraft {
+    ghost member = { data_of };
+
+    ghost made = { bodies.Data };
+
+    fn unset() -> BodyDraft {
+        BodyDraft::Bare
+    }
+
+    fn into_member(self) -> Option<DataDraft> {
+        match self {
+            BodyDraft::Data(draft) => Some(draft),
+            BodyDraft::Bare | BodyDraft::Code(_) => None,
         }
+    }
+
+    fn of(message: DataDraft) -> BodyDraft {
+        BodyDraft::Data(message)
     }
 }
 
@@ -208,11 +199,11 @@ impl Message for BlockDraft {
                 Ok(())
             }
             2 => {
-                take_code(alloc, &mut self.body, part)?;
+                take_member::<CodeDraft, BodyDraft>(alloc, &mut self.body, part)?;
                 Ok(())
             }
             3 => {
-                take_data(alloc, &mut self.body, part)?;
+                take_member::<DataDraft, BodyDraft>(alloc, &mut self.body, part)?;
                 Ok(())
             }
             _ => Ok(()),

@@ -1,13 +1,13 @@
 //! Messages in messages.
 
-ghost use Rattle.std.specs.Prelude.{◌≡◌, [], ◌∷◌, ◌++◌, None, OnOk, IfOk};
+ghost use Rattle.std.specs.Prelude.{◌≡◌, [], ◌∷◌, ◌++◌, Option, None, OnOk, IfOk};
 ghost use Rattle.gt_model.specs.Schema.{Id};
 ghost use Rattle.gt_read.specs.Drafts.Draft.{added_all};
 ghost use Rattle.gt_read.specs.Faults.{message_faults, in_run};
 ghost use Rattle.gt_read.specs.Identifiers.{earlier};
 ghost use Rattle.gt_read.specs.Kinds.{values_of, run_of};
 ghost use Rattle.gt_read.specs.Pieces.{pieces};
-ghost use Rattle.gt_read.specs.Drafts.Answers.{piece, Answers, Entered, EntersRun, AddsRun, FinishesIf};
+ghost use Rattle.gt_read.specs.Drafts.Answers.{piece, Answers, Entered, EntersRun, TakesMember, AddsRun, FinishesIf};
 
 use crate::fault::FormatFault;
 use crate::ids::{IdFault, Identifier, earlier};
@@ -15,6 +15,7 @@ use crate::message::{Message, merge, read_message};
 use crate::pieces::{Carried, Piece, Run};
 use gr_base::{End, Seq};
 use std::alloc::{AllocError, Global};
+use std::mem;
 use uuid::Uuid;
 
 /// Repeated messages that are read, and the first identifier in them that is at fault.
@@ -135,6 +136,44 @@ pub fn finish_message<M: Message>(
         Some(draft) => {
             let (made, fault) = draft.finish(alloc)?;
             Ok((Some(made), fault))
+        }
+    }
+}
+
+/// A oneof of which a message is a member.
+pub trait OneOf<M>: Drop {
+    ghost member: { Self → Option M };
+
+    ghost made: { M → Self };
+
+    /// The oneof without a member.
+    fn unset() -> Self;
+
+    /// The member, where it is the one that is set.
+    fn into_member(self) -> Option<M>
+        ensures { result ≡ member self };
+
+    /// The oneof with the member set.
+    fn of(message: M) -> Self
+        ensures { result ≡ made message };
+}
+
+/// Takes a record of a member of a oneof. Where the member isn't set, it begins anew.
+pub fn take_member<M: Message, O: OneOf<M>>(
+    alloc: Global,
+    slot: &mut O,
+    part: &Piece<'_>,
+) -> Result<(), End<FormatFault>>
+    ensures { Answers result (in_run (λ place start bytes. message_faults M.faults bytes start) part.now.place (piece part.now).carried)
+        (λ _. TakesMember M.starts M.steps O.member O.made slot.old (run_of (piece part.now)) slot.new) }
+{
+    match &part.carried {
+        Carried::Number(_) => Ok(()),
+        Carried::Fixed => Ok(()),
+        Carried::Bytes(run) => {
+            let old = mem::replace(slot, O::unset()).into_member();
+            *slot = O::of(enter(alloc, old, part.place, run)?);
+            Ok(())
         }
     }
 }

@@ -1,14 +1,15 @@
 ghost use Rattle.std.specs.Prelude.{◌≡◌, map, IfOk, OnOk};
 ghost use Rattle.gt_model.specs.Schema.{NumberKey, addr_const_rows, addr_addr_rows, expr_rows};
 ghost use Rattle.gt_model.specs.Views.{expr_entry};
-ghost use Rattle.gt_read.specs.Drafts.Views.{addr_const_draft, addr_addr_draft, expr_draft, addr_const, addr_addr, expr_parts, expr_entry_draft, expr_entry_parts, expr_held, expr_finished, const_of, addr_of, FinishesValue, TakesConst, TakesAddr};
+ghost use Rattle.gt_read.specs.Drafts.Views.{addr_const_draft, addr_addr_draft, expr_draft, addr_const, addr_addr, expr_parts, expr_entry_draft, expr_entry_parts, expr_held, expr_finished, const_of, addr_of, FinishesValue};
 ghost use Rattle.gt_read.specs.Drafts.Draft.{entered_map, map_fault};
 ghost use Rattle.gt_read.specs.Drafts.Entries.{entry_rows, EntryFinishes};
+ghost use Rattle.gt_read.specs.declared.expr_drafts.ValueDraft.TheVariants as values;
 ghost use Rattle.gt_read.specs.Faults.{piece_faults, faults, entry_faults, message_faults, in_run};
 ghost use Rattle.gt_read.specs.Kinds.{run_of};
 ghost use Rattle.gt_read.specs.Drafts.Answers.{piece, Answers, Starts, Steps, Finishes};
 
-use crate::children::{enter, finish_message, take_message};
+use crate::children::{OneOf, finish_message, take_member, take_message};
 use crate::expr_drafts::{
     AddrAddr, AddrAddrDraft, AddrConst, AddrConstDraft, ExprDraft, ExprEntry, ExprEntryDraft,
     ExprParts, HeldExpr, ValueDraft,
@@ -23,63 +24,46 @@ use gr_base::{End, Seq};
 use gt_model::{Expr, ExprValue};
 use std::alloc::{AllocError, Global};
 use std::collections::BTreeMap;
-use std::mem;
 
-fn into_const(value: ValueDraft) -> Option<AddrConstDraft>
-    ensures { result ≡ const_of value }
-{
-    match value {
-        ValueDraft::AddrConst(draft) => Some(draft),
-        ValueDraft::Nothing | ValueDraft::AddrAddr(_) => None,
+impl OneOf<AddrConstDraft> for ValueDraft {
+    ghost member = { const_of };
+
+    ghost made = { values.AddrConst };
+
+    fn unset() -> ValueDraft {
+        ValueDraft::Nothing
     }
-}
 
-fn into_addr(value: ValueDraft) -> Option<AddrAddrDraft>
-    ensures { result ≡ addr_of value }
-{
-    match value {
-        ValueDraft::AddrAddr(draft) => Some(draft),
-        ValueDraft::Nothing | ValueDraft::AddrConst(_) => None,
-    }
-}
-
-fn take_addr_const(
-    alloc: Global,
-    value: &mut ValueDraft,
-    part: &Piece<'_>,
-) -> Result<(), End<FormatFault>>
-    ensures { Answers result (in_run (λ place start bytes. message_faults (piece_faults addr_const_rows) bytes start) part.now.place (piece part.now).carried)
-        (λ _. TakesConst value.old (run_of (piece part.now)) value.new) }
-{
-    match &part.carried {
-        Carried::Number(_) => Ok(()),
-        Carried::Fixed => Ok(()),
-        Carried::Bytes(run) => {
-            let old = into_const(mem::replace(value, ValueDraft::Nothing));
-            let draft = enter(alloc, old, part.place, run)?;
-            *value = ValueDraft::AddrConst(draft);
-            Ok(())
+    fn into_member(self) -> Option<AddrConstDraft> {
+        match self {
+            ValueDraft::AddrConst(draft) => Some(draft),
+            ValueDraft::Nothing | ValueDraft::AddrAddr(_) => None,
         }
     }
+
+    fn of(message: AddrConstDraft) -> ValueDraft {
+        ValueDraft::AddrConst(message)
+    }
 }
 
-fn take_addr_addr(
-    alloc: Global,
-    value: &mut ValueDraft,
-    part: &Piece<'_>,
-) -> Result<(), End<FormatFault>>
-    ensures { Answers result (in_run (λ place start bytes. message_faults (piece_faults addr_addr_rows) bytes start) part.now.place (piece part.now).carried)
-        (λ _. TakesAddr value.old (run_of (piece part.now)) value.new) }
-{
-    match &part.carried {
-        Carried::Number(_) => Ok(()),
-        Carried::Fixed => Ok(()),
-        Carried::Bytes(run) => {
-            let old = into_addr(mem::replace(value, ValueDraft::Nothing));
-            let draft = enter(alloc, old, part.place, run)?;
-            *value = ValueDraft::AddrAddr(draft);
-            Ok(())
+impl OneOf<AddrAddrDraft> for ValueDraft {
+    ghost member = { addr_of };
+
+    ghost made = { values.AddrAddr };
+
+    fn unset() -> ValueDraft {
+        ValueDraft::Nothing
+    }
+
+    fn into_member(self) -> Option<AddrAddrDraft> {
+        match self {
+            ValueDraft::AddrAddr(draft) => Some(draft),
+            ValueDraft::Nothing | ValueDraft::AddrConst(_) => None,
         }
+    }
+
+    fn of(message: AddrAddrDraft) -> ValueDraft {
+        ValueDraft::AddrAddr(message)
     }
 }
 
@@ -269,11 +253,11 @@ impl Message for ExprDraft {
     fn take(&mut self, alloc: Global, part: &Piece<'_>) -> Result<(), End<FormatFault>> {
         match part.number {
             2 => {
-                take_addr_const(alloc, &mut self.value, part)?;
+                take_member::<AddrConstDraft, ValueDraft>(alloc, &mut self.value, part)?;
                 Ok(())
             }
             3 => {
-                take_addr_addr(alloc, &mut self.value, part)?;
+                take_member::<AddrAddrDraft, ValueDraft>(alloc, &mut self.value, part)?;
                 Ok(())
             }
             4 => {

@@ -1,9 +1,11 @@
 //! Laws of the definitions that contracts cite: each function is its contract.
 
-ghost use Rattle.std.specs.Prelude.{◌≡◌, ◌+◌, ◌<◌, ℕ, List, [], ◌∷◌, ◌++◌, length, map, Option, Some, None};
+ghost use Rattle.std.specs.Prelude.{◌≡◌, ◌+◌, ◌<◌, ◌≤◌, ℕ, List, [], ◌∷◌, ◌++◌, length, map, Option, Some, None};
 ghost use Rattle.std.specs.BTreeMap.{is_at};
+ghost use Rattle.std.specs.List.{AllByRecursion};
 ghost use Rattle.std.specs.List.Sorted.{IsStrictlySortedBy};
 ghost use Rattle.std.specs.Map.{lookup};
+ghost use Rattle.std.specs.Ordering.{nat_cmp};
 ghost use Rattle.pb_wire.specs.declared.fault.WireFault.{WireFault};
 ghost use Rattle.pb_wire.specs.declared.fault.WireReason.{WireReason};
 ghost use Rattle.pb_wire.specs.declared.records.Record.{Record};
@@ -16,10 +18,12 @@ ghost use Rattle.gt_model.specs.Ordered.{ordered};
 ghost use Rattle.gt_model.specs.Schema.{Key, key_kind, Rows, ir_rows};
 ghost use Rattle.gt_model.specs.Typed.{AreBytes, typed};
 ghost use Rattle.gt_read.specs.declared.fault.FormatFault.{FormatFault};
+ghost use Rattle.gt_read.specs.Faults.{faults, first_of};
 ghost use Rattle.gt_read.specs.File.{file, format_fault};
 ghost use Rattle.gt_read.specs.Joining.{Entry, HasNone, ir_join};
 ghost use Rattle.gt_read.specs.Kinds.{Read, packed, put_number};
 ghost use Rattle.gt_read.specs.Meaning.{key_cmp, map_of, meaning};
+ghost use Rattle.gt_read.specs.Places.{place_of};
 ghost use Rattle.gt_read.specs.Pieces.{Piece, piece_of, pieces, broken, walk, put_first};
 
 /// The pieces of bytes are the records of the list that spells them, and nothing is broken; where
@@ -92,3 +96,14 @@ pub fn each_key_has_its_last_value()
 pub fn parts_are_joined()
     ensures { (first second : List Piece) → meaning ir_rows 0 (first ++ second) ≡ ir_join second (meaning ir_rows 0 first) (meaning ir_rows 0 second) }
 {}
+
+/// The places of what is wrong with the records of a body ascend, so the first of it has the least place.
+pub fn places_ascend()
+    ensures order { (body : List ℕ) (base : ℕ) → AreBytes body → IsStrictlySortedBy nat_cmp (map place_of (faults ir_rows body base)) }
+    ensures least { (body : List ℕ) (base : ℕ) → AreBytes body → (first : FormatFault) → first_of (faults ir_rows body base) ≡ Some first →
+        AllByRecursion (λ fault. place_of first ≤ place_of fault) (faults ir_rows body base) }
+{
+    pb_wire::laws::records_are_read();
+    pb_wire::laws::varints_are_read();
+    pb_wire::laws::varint_fits();
+}

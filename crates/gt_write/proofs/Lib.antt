@@ -1,6 +1,5 @@
 pub mod ReadingLaws
 pub mod Maps
-pub mod Orders
 pub mod Walking
 pub mod KindsBack
 pub mod PackedBack

@@ -6,6 +6,8 @@ mod decoding;
 #[cfg(test)]
 mod images;
 #[cfg(test)]
+mod machine;
+#[cfg(test)]
 mod operations;
 #[cfg(test)]
 mod running;

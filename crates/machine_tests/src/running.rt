@@ -235,6 +235,7 @@ fn image_bytes(alloc: Global, words: &[u32]) -> Result<Bytes, AllocError> {
 #[test]
 fn programs_run_to_their_end(rt: HostRuntime) -> Result<(), Fail> {
     for row in &ROWS {
+        assert!(rt; row.may <= 10_000_000);
         let bytes = image_bytes(rt.alloc(), row.words)?;
         let image = read_image(rt.alloc(), bytes.as_slice())?;
         let report = run_image(rt.alloc(), &image, row.input, row.may)?;

@@ -4,3 +4,6 @@ pub mod PlacedModules
 pub mod RefLists
 pub mod IndexLists
 pub mod RefLaws
+pub mod Hops
+pub mod Faults
+pub mod BareBlocks

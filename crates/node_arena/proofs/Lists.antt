@@ -206,3 +206,16 @@ listed_of kids place d ns parents t n at id m =
     let k : at.0 < length (map (λ x. map place (kids x)) ns) = rw length-map at.1 in
     let list : get_or (map (λ x. map place (kids x)) ns) at.0 [] ≡ map place (kids n) = get_or-map (λ x. map place (kids x)) ns at.0 n [] at.1 ∙ ap (λ x. map place (kids x)) at.2 in
     (t.listed at.0 (place id) k (subst (λ l. Contains l (place id)) (sym list) (In-map place (kids n) id m))).0
+
+-- what stands for the elements past the end doesn't matter within
+pub read-same : {A : Type 0} (xs : List A) (k : ℕ) (d e : A) → k < length xs → get_or xs k d ≡ get_or xs k e
+read-same [] k d e h = absurd (omega arith)
+read-same (x ∷ xs) zero d e h = refl
+read-same (x ∷ xs) (suc k) d e h = read-same xs k d e (omega arith)
+
+-- a child names a parent
+pub parent-within : {M : Type 0} (parent : M → ℕ) (lists : List (List ℕ)) (ms : List M) → Children lists (map parent ms) → (k : ℕ) (d : M) → k < length ms
+    → parent (get_or ms k d) < length lists
+parent-within parent lists ms t k d h =
+    let len : k < length (map parent ms) = rw length-map h in
+    subst (λ p. p < length lists) (get_or-map parent ms k d 0 h) (t.owned k len).0

@@ -1,8 +1,8 @@
 -- What placing one more module keeps and adds.
-use Rattle.std.proofs.Common.{◌≡◌, ℕ, ◌+◌, ◌<◌, List, [], ◌∷◌, ◌++◌, length, get_or, map, replicate, refl, sym, ap, ◌∙◌, subst}
+use Rattle.std.proofs.Common.{◌≡◌, ◌+◌, ◌<◌, List, [], ◌∷◌, ◌++◌, length, get_or, map, replicate, refl, sym, ap, ◌∙◌, subst}
 use Rattle.std.specs.Prelude.{Contains}
 use Rattle.std.specs.List.{range_with_len}
-use Rattle.std.proofs.lemmas.List.{length-map, get_or-map, map-append}
+use Rattle.std.proofs.lemmas.List.{length-map, map-append}
 use Rattle.std.proofs.Math.ListN.{length-append}
 use Rattle.gt_model.specs.declared.ir.Ir.{Ir}
 use Rattle.gt_model.specs.declared.modules.Module.{Module}
@@ -19,7 +19,7 @@ use Rattle.node_arena.specs.Arenas.{Arenas, no_symbol, no_proxy}
 use Rattle.node_arena.specs.Plain.{plain_section, proxy_id}
 use Rattle.node_arena.specs.Sound.{Children, section_places, symbol_places, proxy_places}
 use Rattle.node_arena.specs.Placing.{Begins, PlacedSymbols, PlacedProxies, PlacedSections, Drafted, drafted_symbol, drafted_module, without_entry, payload_of, placed_module, placed_symbol, placed_proxy, section_lists, symbol_lists, proxy_lists, section_parents, symbol_parents, proxy_parents, lower_tree, full_tree}
-use Rattle.node_arena.proofs.Lists.{listed_of, map-map, map-itself, map-same, map-read, map-read-two, In-map, tree-grown, parents-appended}
+use Rattle.node_arena.proofs.Lists.{listed_of, map-map, map-itself, map-same, map-read, map-read-two, tree-grown, parents-appended}
 use Rattle.node_arena.proofs.Placed.{begins_get, keep_section}
 
 -- what is drafted of a module stays as the lists grow

@@ -1,32 +1,23 @@
 -- The nodes of a graph in order are those of its IR, and all are of the graph.
-use Rattle.std.proofs.Common.{◌≡◌, ℕ, suc, ◌+◌, ◌<◌, ◌≤◌, Bool, true, false, List, [], ◌∷◌, ◌++◌, length, get_or, map, Option, refl, sym, ap, ◌∙◌, subst, arith, append_assoc, append-nil}
+use Rattle.std.proofs.Common.{◌≡◌, ℕ, ◌+◌, ◌<◌, Bool, true, false, List, [], ◌∷◌, ◌++◌, length, map, refl, arith}
 use Rattle.std.specs.Prelude.{Contains, if◌then◌else◌}
 use Rattle.std.specs.List.{AllByRecursion, flat_map}
-use Rattle.std.proofs.lemmas.List.{length-map, get_or-map, map-append}
+use Rattle.std.proofs.lemmas.List.{length-map}
 use Rattle.std.proofs.lemmas.List.Elements.{Contains-get_or}
-use Rattle.gt_model.specs.declared.intervals.Body.{Body}
-use Rattle.gt_model.specs.declared.intervals.Body.TheVariants as bodies
-use Rattle.gt_model.specs.Linked.{is_bare_body}
-use Rattle.gt_model.specs.Nodes.{Node, node, AModule, ASection, AnInterval, AProxy, ASymbol, body_nodes, block_nodes, interval_nodes, section_nodes}
 use Rattle.node_arena.specs.declared.ids.BlockId.{BlockId}
 use Rattle.node_arena.specs.declared.ids.IntervalId.{IntervalId}
-use Rattle.node_arena.specs.declared.ids.NodeRef.{NodeRef}
 use Rattle.node_arena.specs.declared.ids.NodeRef.TheVariants as refs
 use Rattle.node_arena.specs.declared.ids.ProxyId.{ProxyId}
 use Rattle.node_arena.specs.declared.ids.SectionId.{SectionId}
 use Rattle.node_arena.specs.declared.ids.SymbolId.{SymbolId}
-use Rattle.node_arena.specs.declared.nodes.BlockNode.{BlockNode}
 use Rattle.node_arena.specs.declared.nodes.IntervalNode.{IntervalNode}
 use Rattle.node_arena.specs.declared.nodes.ModuleNode.{ModuleNode}
-use Rattle.node_arena.specs.declared.nodes.ProxyNode.{ProxyNode}
 use Rattle.node_arena.specs.declared.nodes.SectionNode.{SectionNode}
-use Rattle.node_arena.specs.declared.nodes.SymbolNode.{SymbolNode}
-use Rattle.node_arena.specs.Arenas.{Arenas, interval_at, section_at, block_at, no_interval, no_section, no_block}
-use Rattle.node_arena.specs.Placing.{full_tree, block_lists, interval_lists, section_lists, block_parents, interval_parents, section_parents, symbol_parents, proxy_parents, lower_tree}
-use Rattle.node_arena.specs.Plain.{plain_block, plain_interval, plain_section}
-use Rattle.node_arena.specs.Refs.{block_refs, interval_refs, section_refs, module_refs, refs_from, all_refs, block_kind, ref_kind, ref_node}
-use Rattle.node_arena.specs.Sound.{Children, Live, is_bare_at, block_places, interval_places, module_of_block, module_of_interval, module_of_section}
-use Rattle.node_arena.proofs.Lists.{map-map, map-same, In-head, In-tail, In-map, listed_of}
+use Rattle.node_arena.specs.Arenas.{Arenas, interval_at, section_at, no_interval, no_section}
+use Rattle.node_arena.specs.Placing.{full_tree, block_parents, interval_parents, section_parents, symbol_parents, proxy_parents, lower_tree}
+use Rattle.node_arena.specs.Refs.{block_refs, interval_refs, section_refs, module_refs, refs_from, all_refs}
+use Rattle.node_arena.specs.Sound.{Live, is_bare_at}
+use Rattle.node_arena.proofs.Lists.{In-head, In-tail, listed_of}
 
 pub All-join : {X : Type 0} (P : X → Type 0) (xs ys : List X) → AllByRecursion P xs → AllByRecursion P ys → AllByRecursion P (xs ++ ys)
 All-join P [] ys h k = k

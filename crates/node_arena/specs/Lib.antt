@@ -4,3 +4,4 @@ pub mod Sound
 pub mod Stored
 pub mod Placing
 pub mod Refs
+pub mod Checking

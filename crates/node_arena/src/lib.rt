@@ -3,11 +3,14 @@
 #![tactic(auto)]
 
 mod arena;
+mod bare;
+mod checks;
 mod draft;
 mod fault;
 mod graph;
 mod ids;
 mod index;
+mod landing;
 mod nodes;
 mod refs;
 

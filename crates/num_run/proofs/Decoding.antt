@@ -8,7 +8,8 @@ use Rattle.a64_inst.specs.Table.{row}
 use Rattle.num_run.specs.declared.cache.Slot.{Slot}
 use Rattle.num_run.specs.declared.cache.Cache.{Cache}
 use Rattle.num_run.specs.Decoded.{IsCache, IsSlot}
-use Rattle.num_run.specs.Machine.{Machine, word_at}
+use Rattle.paged_memory.specs.Mapping.{word_at}
+use Rattle.num_run.specs.Machine.{Machine}
 use Rattle.num_run.specs.Numeric.{numeric}
 use Rattle.num_run.specs.Run.{step}
 

@@ -1,12 +1,5 @@
 pub mod Accesses
-pub mod Added
 pub mod Ends
-pub mod Images
-pub mod Loads
-pub mod Memories
-pub mod Places
-pub mod Spans
 pub mod Reached
-pub mod Stretches
 pub mod Sums
 pub mod Decoding

@@ -2,7 +2,6 @@ pub mod Machine
 pub mod Numeric
 pub mod Access
 pub mod Run
-pub mod Mapped
 pub mod Runner
 pub mod Results
 pub mod Decoded

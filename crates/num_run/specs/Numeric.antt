@@ -5,7 +5,8 @@ use Rattle.a64_inst.specs.declared.operations.Width.{Width}
 use Rattle.a64_inst.specs.declared.operations.Sum.TheVariants.{Add}
 use Rattle.a64_inst.specs.Numbers.{bits_of, sign_extended, bit_of, sum_value, sum_flags, carry_flags, logic_flags, named_flags, holds, unary_value, binary_value, chosen, zero_bit}
 use Rattle.a64_inst.specs.Domain.{exit, trapped, Answer, next, ended, Domain}
-use Rattle.num_run.specs.Machine.{Machine, is_mapped, bytes_from, with_bytes, number_of, bytes_of, register, with_register}
+use Rattle.paged_memory.specs.Mapping.{is_mapped, bytes_from, with_bytes, number_of, bytes_of}
+use Rattle.num_run.specs.Machine.{Machine, register, with_register}
 
 -- what an operation comes to; a machine of numbers is never stuck
 abbrev pub Outcome : Type 0 → Type 0

@@ -10,7 +10,8 @@ use Rattle.link_image.specs.declared.image.Image.{Image}
 use Rattle.num_run.specs.declared.report.RunEnd.{RunEnd}
 use Rattle.num_run.specs.declared.report.RunEnd.TheVariants as ends
 use Rattle.num_run.specs.declared.report.RunReport.{RunReport}
-use Rattle.num_run.specs.Machine.{Machine, byte_in, stack_of, word_at}
+use Rattle.paged_memory.specs.Mapping.{byte_in, stack_of, word_at}
+use Rattle.num_run.specs.Machine.{Machine}
 use Rattle.num_run.specs.Numeric.{Outcome, numeric}
 
 -- the word at the place, which is a multiple of 4 and mapped

@@ -6,7 +6,7 @@ use Rattle.num_run.specs.declared.report.RunEnd.TheVariants.{Running, Exit, Trap
 use Rattle.num_run.specs.declared.runner.Runner.{Runner}
 use Rattle.num_run.specs.Machine.{Machine}
 use Rattle.num_run.specs.Numeric.{Outcome}
-use Rattle.num_run.specs.Mapped.{mapped}
+use Rattle.paged_memory.specs.Mapped.{mapped}
 
 -- the machine that a runner stands for
 abbrev pub machine : Runner → Machine

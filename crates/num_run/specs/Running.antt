@@ -3,7 +3,7 @@ use Rattle.std.specs.Prelude.{◌≡◌, ◌≤◌}
 use Rattle.a64_inst.specs.Runs.{run}
 use Rattle.num_run.specs.declared.running.Machine.TheInside.{Inside}
 use Rattle.num_run.specs.Decoded.{IsCache}
-use Rattle.num_run.specs.Mapped.{IsMemory}
+use Rattle.paged_memory.specs.Mapped.{IsMemory}
 use Rattle.num_run.specs.Opened.{Opened, so_far}
 use Rattle.num_run.specs.Run.{step, start}
 use Rattle.num_run.specs.Runner.{machine}

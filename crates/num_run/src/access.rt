@@ -7,16 +7,16 @@ ghost use Rattle.a64_inst.specs.Table.{is_allowed};
 ghost use Rattle.a64_inst.specs.declared.inst.Inst.TheVariants.{Literal, Scaled, UnscaledPostPre, Register};
 ghost use Rattle.num_run.specs.Numeric.{numeric, stored};
 ghost use Rattle.num_run.specs.Access.{accessed, advanced, moved, low_bytes};
-ghost use Rattle.num_run.specs.Mapped.{IsMemory};
+ghost use Rattle.paged_memory.specs.Mapped.{IsMemory};
 ghost use Rattle.num_run.specs.Runner.{machine, Comes};
 
-use crate::ranges::byte_count;
 use crate::report::RunEnd;
 use crate::runner::Runner;
 use a64_inst::{Sum, Trap, Width};
 use a64_numbers::numbers::sign_extended;
 use a64_numbers::shifts::{extended_operand, loaded};
 use a64_numbers::sums::sum;
+use paged_memory::byte_count;
 
 impl<'a> Runner<'a> {
     /// LDR and LDRSW of a literal.

@@ -2,7 +2,7 @@
 
 ghost use Rattle.std.specs.Prelude.{◌≡◌, ◌≤◌, length};
 ghost use Rattle.num_run.specs.Numeric.{called, written, received};
-ghost use Rattle.num_run.specs.Mapped.{IsMemory};
+ghost use Rattle.paged_memory.specs.Mapped.{IsMemory};
 ghost use Rattle.num_run.specs.Runner.{machine, Comes};
 
 use crate::report::RunEnd;

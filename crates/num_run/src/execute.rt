@@ -8,7 +8,7 @@ ghost use Rattle.a64_inst.specs.declared.inst.Inst.TheVariants.{SvcBrk};
 ghost use Rattle.num_run.specs.Numeric.{numeric};
 ghost use Rattle.num_run.specs.Run.{step};
 ghost use Rattle.num_run.specs.Decoded.{IsCache};
-ghost use Rattle.num_run.specs.Mapped.{IsMemory};
+ghost use Rattle.paged_memory.specs.Mapped.{IsMemory};
 ghost use Rattle.num_run.specs.Runner.{machine, Comes};
 
 use crate::cache::Cache;
@@ -16,12 +16,18 @@ use crate::report::RunEnd;
 use crate::runner::Runner;
 use a64_inst::{Inst, Trap, laws};
 
-// What an instruction does: what the method of its row does with the row's fields, one row a line, and
-// the rows that may end the run.
+// What an instruction does: what the method of its row does with the row's fields, one row a line: first the
+// rows after which a run goes on, then those that may end it.
 macro_rules! by_row {
-    ($runner:expr, $inst:expr, $($row:ident { $($field:ident),+ } => $method:ident;)+) => {
+    ($runner:expr, $inst:expr,
+        $($row:ident { $($field:ident),+ } => $method:ident;)+
+        | $($access:ident { $($part:ident),+ } => $does:ident;)+) => {
         match *$inst {
-            $(Inst::$row { $($field),+ } => $runner.$method($($field),+),)+
+            $(Inst::$row { $($field),+ } => {
+                $runner.$method($($field),+);
+                RunEnd::Running
+            })+
+            $(Inst::$access { $($part),+ } => $runner.$does($($part),+),)+
             Inst::SvcBrk { which: 0, imm16 } => $runner.system_call(imm16),
             Inst::SvcBrk { imm16, .. } => RunEnd::Trap(Trap::Break(imm16)),
             Inst::Udf { imm16 } => RunEnd::Trap(Trap::Udf(imm16)),
@@ -85,7 +91,7 @@ impl<'a> Runner<'a> {
             CbzCbnz { sf, op, imm19, rt } => cbz_cbnz;
             TbzTbnz { b5, op, b40, imm14, rt } => tbz_tbnz;
             BrBlrRet { which, rn } => br_blr_ret;
-            Literal { opc, imm19, rt } => literal;
+            | Literal { opc, imm19, rt } => literal;
             Scaled { size, opc, imm12, rn, rt } => scaled;
             UnscaledPostPre { size, opc, imm9, idx, rn, rt } => unscaled_post_pre;
             Register { size, opc, rm, option, s, rn, rt } => register_offset;

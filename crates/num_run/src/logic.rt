@@ -1,15 +1,13 @@
 //! Logical instructions, moves and bit fields.
 
 ghost use Rattle.std.specs.Prelude.{◌≡◌, [], IsTrue};
-ghost use Rattle.a64_inst.specs.Domain.{exec};
+ghost use Rattle.a64_inst.specs.Domain.{exec, next};
 ghost use Rattle.a64_inst.specs.Meaning.{ops};
 ghost use Rattle.a64_inst.specs.Table.{is_allowed};
 ghost use Rattle.a64_inst.specs.declared.inst.Inst.TheVariants.{LogicalShifted, LogicalImm, MoveWide, Bitfield, Extr};
 ghost use Rattle.num_run.specs.Numeric.{numeric};
-ghost use Rattle.num_run.specs.Mapped.{IsMemory};
-ghost use Rattle.num_run.specs.Runner.{machine, Comes};
+ghost use Rattle.num_run.specs.Runner.{machine};
 
-use crate::report::RunEnd;
 use crate::runner::Runner;
 use a64_numbers::{fields, numbers, shifts, sums};
 
@@ -25,11 +23,10 @@ impl<'a> Runner<'a> {
         imm6: u8,
         rn: u8,
         rd: u8,
-    ) -> RunEnd
-        requires memory { IsMemory self.old.memory }
+    )
         requires inst { IsTrue (is_allowed (LogicalShifted sf opc shift n rm imm6 rn rd)) }
-        ensures memory { IsMemory self.new.memory }
-        ensures comes { Comes (exec numeric (ops (LogicalShifted sf opc shift n rm imm6 rn rd)) [] (machine self.old)) result (machine self.new) }
+        ensures memory { self.new.memory ≡ self.old.memory }
+        ensures machine { exec numeric (ops (LogicalShifted sf opc shift n rm imm6 rn rd)) [] (machine self.old) ≡ next (machine self.new) }
     {
         let width = numbers::width(sf);
         let b = shifts::operand(width, shift, imm6, self.register(false, rm));
@@ -37,24 +34,14 @@ impl<'a> Runner<'a> {
         if opc == 3 {
             self.set_flags(sums::flags_of_logic(width, value));
         }
-        self.keep(rd, value)
+        self.keep(rd, value);
     }
 
     /// AND, ORR, EOR and ANDS of an immediate.
-    pub fn logical_imm(
-        &mut self,
-        sf: u8,
-        opc: u8,
-        n: u8,
-        immr: u8,
-        imms: u8,
-        rn: u8,
-        rd: u8,
-    ) -> RunEnd
-        requires memory { IsMemory self.old.memory }
+    pub fn logical_imm(&mut self, sf: u8, opc: u8, n: u8, immr: u8, imms: u8, rn: u8, rd: u8)
         requires inst { IsTrue (is_allowed (LogicalImm sf opc n immr imms rn rd)) }
-        ensures memory { IsMemory self.new.memory }
-        ensures comes { Comes (exec numeric (ops (LogicalImm sf opc n immr imms rn rd)) [] (machine self.old)) result (machine self.new) }
+        ensures memory { self.new.memory ≡ self.old.memory }
+        ensures machine { exec numeric (ops (LogicalImm sf opc n immr imms rn rd)) [] (machine self.old) ≡ next (machine self.new) }
     {
         let width = numbers::width(sf);
         let b = fields::mask(sf, n, immr, imms);
@@ -62,15 +49,14 @@ impl<'a> Runner<'a> {
         if opc == 3 {
             self.set_flags(sums::flags_of_logic(width, value));
         }
-        self.put(opc != 3, rd, value)
+        self.put(opc != 3, rd, value);
     }
 
     /// MOVN, MOVZ, MOVK.
-    pub fn move_wide(&mut self, sf: u8, opc: u8, hw: u8, imm16: u16, rd: u8) -> RunEnd
-        requires memory { IsMemory self.old.memory }
+    pub fn move_wide(&mut self, sf: u8, opc: u8, hw: u8, imm16: u16, rd: u8)
         requires inst { IsTrue (is_allowed (MoveWide sf opc hw imm16 rd)) }
-        ensures memory { IsMemory self.new.memory }
-        ensures comes { Comes (exec numeric (ops (MoveWide sf opc hw imm16 rd)) [] (machine self.old)) result (machine self.new) }
+        ensures memory { self.new.memory ≡ self.old.memory }
+        ensures machine { exec numeric (ops (MoveWide sf opc hw imm16 rd)) [] (machine self.old) ≡ next (machine self.new) }
     {
         let width = numbers::width(sf);
         let value = match opc {
@@ -78,15 +64,14 @@ impl<'a> Runner<'a> {
             3 => numbers::inserted(width, self.register(false, rd), imm16, hw),
             _ => numbers::placed(imm16, hw),
         };
-        self.put(false, rd, value)
+        self.put(false, rd, value);
     }
 
     /// SBFM, BFM, UBFM.
-    pub fn bitfield(&mut self, sf: u8, opc: u8, n: u8, immr: u8, imms: u8, rn: u8, rd: u8) -> RunEnd
-        requires memory { IsMemory self.old.memory }
+    pub fn bitfield(&mut self, sf: u8, opc: u8, n: u8, immr: u8, imms: u8, rn: u8, rd: u8)
         requires inst { IsTrue (is_allowed (Bitfield sf opc n immr imms rn rd)) }
-        ensures memory { IsMemory self.new.memory }
-        ensures comes { Comes (exec numeric (ops (Bitfield sf opc n immr imms rn rd)) [] (machine self.old)) result (machine self.new) }
+        ensures memory { self.new.memory ≡ self.old.memory }
+        ensures machine { exec numeric (ops (Bitfield sf opc n immr imms rn rd)) [] (machine self.old) ≡ next (machine self.new) }
     {
         let width = numbers::width(sf);
         let a = self.register(false, rn);
@@ -95,18 +80,17 @@ impl<'a> Runner<'a> {
         } else {
             fields::field(opc == 0, width, immr, imms, a)
         };
-        self.keep(rd, value)
+        self.keep(rd, value);
     }
 
     /// EXTR.
-    pub fn extr(&mut self, sf: u8, n: u8, rm: u8, imms: u8, rn: u8, rd: u8) -> RunEnd
-        requires memory { IsMemory self.old.memory }
+    pub fn extr(&mut self, sf: u8, n: u8, rm: u8, imms: u8, rn: u8, rd: u8)
         requires inst { IsTrue (is_allowed (Extr sf n rm imms rn rd)) }
-        ensures memory { IsMemory self.new.memory }
-        ensures comes { Comes (exec numeric (ops (Extr sf n rm imms rn rd)) [] (machine self.old)) result (machine self.new) }
+        ensures memory { self.new.memory ≡ self.old.memory }
+        ensures machine { exec numeric (ops (Extr sf n rm imms rn rd)) [] (machine self.old) ≡ next (machine self.new) }
     {
         let a = self.register(false, rn);
         let value = fields::extract(numbers::width(sf), imms, a, self.register(false, rm));
-        self.keep(rd, value)
+        self.keep(rd, value);
     }
 }

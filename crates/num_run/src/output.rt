@@ -1,10 +1,10 @@
 //! What a run writes.
 
 ghost use Rattle.std.specs.Prelude.{◌≡◌, ◌≤◌, ◌+◌, ◌^◌, ◌↔◌, ◌++◌, [], vec_len, vec_capacity, IsTrue, IfOk};
-ghost use Rattle.num_run.specs.Machine.{bytes_from, is_mapped};
-ghost use Rattle.num_run.specs.Mapped.{IsMemory, mapped};
+ghost use Rattle.paged_memory.specs.Mapping.{bytes_from, is_mapped};
+ghost use Rattle.paged_memory.specs.Mapped.{IsMemory, mapped};
 
-use crate::memory::Memory;
+use paged_memory::Memory;
 use std::alloc::{AllocError, Global};
 
 /// The most bytes of output, 2 ^ 24.

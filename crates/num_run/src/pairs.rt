@@ -8,16 +8,16 @@ ghost use Rattle.a64_inst.specs.declared.inst.Inst.TheVariants.{Pair};
 ghost use Rattle.a64_inst.specs.Numbers.{low, sign_extended};
 ghost use Rattle.num_run.specs.Numeric.{numeric};
 ghost use Rattle.num_run.specs.Access.{pair_accessed, pair_loaded, pair_stored, advanced, moved};
-ghost use Rattle.num_run.specs.Mapped.{IsMemory};
+ghost use Rattle.paged_memory.specs.Mapped.{IsMemory};
 ghost use Rattle.num_run.specs.Runner.{machine, Comes};
 
-use crate::ranges::byte_count;
 use crate::report::RunEnd;
 use crate::runner::Runner;
 use a64_inst::{Sum, Trap, Width};
 use a64_numbers::numbers::sign_extended;
 use a64_numbers::shifts::{extended_operand, loaded};
 use a64_numbers::sums::sum;
+use paged_memory::byte_count;
 
 /// The bytes of each register of a pair, as a power of 2.
 #[inline(always)]

@@ -3,13 +3,13 @@ ghost use Rattle.link_image.specs.Valid.{image_ok};
 ghost use Rattle.num_run.specs.Machine.{register, with_register};
 ghost use Rattle.num_run.specs.Numeric.{at_place};
 ghost use Rattle.num_run.specs.Run.{start};
-ghost use Rattle.num_run.specs.Mapped.{IsMemory};
+ghost use Rattle.paged_memory.specs.Mapped.{IsMemory};
 ghost use Rattle.num_run.specs.Runner.{machine};
 
-use crate::memory::Memory;
 use crate::output::Output;
 use a64_inst::Flags;
 use link_image::Image;
+use paged_memory::Memory;
 use std::alloc::{AllocError, Global};
 
 /// The machine while it runs.

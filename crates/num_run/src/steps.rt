@@ -3,7 +3,7 @@
 ghost use Rattle.std.specs.Prelude.{◌≡◌, ◌≤◌, ◌+◌, ℕ};
 ghost use Rattle.a64_inst.specs.Runs.{onward};
 ghost use Rattle.num_run.specs.Decoded.{IsCache};
-ghost use Rattle.num_run.specs.Mapped.{IsMemory};
+ghost use Rattle.paged_memory.specs.Mapped.{IsMemory};
 ghost use Rattle.num_run.specs.Opened.{so_far};
 ghost use Rattle.num_run.specs.Run.{step};
 ghost use Rattle.num_run.specs.Runner.{machine};

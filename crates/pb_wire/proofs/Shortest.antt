@@ -18,11 +18,6 @@ within_large : (more value : ℕ) → 128 ≤ value → shortest_within (suc mor
 unfolding shortest_within
 within_large more value large = rw (le-ltb value 128 large) refl
 
--- a small value is its own varint
-pub shortest-small : (value : ℕ) → value < 128 → shortest value ≡ value ∷ []
-unfolding shortest
-shortest-small value small = within_small 9 value small
-
 -- ---- what a loop keeps: the bytes written, and those of the rest
 pub record Writes (buffer : List ℕ) (len rest value : ℕ) : Type 0 where
   pub early : len ≤ 9

@@ -1,2 +1,3 @@
 mod Examples
-mod WorkedImages
+pub mod WorkedImages
+mod WorkedRuns

@@ -1,17 +1,13 @@
 -- Worked images: evaluated, and cited by nothing.
 use Rattle.std.proofs.Common.{refl, ◌≡◌, pos}
-use Rattle.std.specs.Prelude.{ℕ, Bool, true, false, List, [], ◌∷◌, Option, Some, None, map, replicate, codes, take, drop}
+use Rattle.std.specs.Prelude.{ℕ, true, false, List, [], ◌∷◌, Some, None, map, replicate, codes, take, drop}
 use Rattle.gt_model.specs.declared.exprs.Expr.{Expr}
 use Rattle.gt_model.specs.declared.exprs.ExprValue.TheVariants as values
-use Rattle.gt_model.specs.declared.intervals.Block.{Block}
 use Rattle.gt_model.specs.declared.intervals.Body.TheVariants as bodies
 use Rattle.gt_model.specs.declared.intervals.Interval.{Interval}
 use Rattle.gt_model.specs.declared.modules.Module.{Module}
-use Rattle.gt_model.specs.declared.modules.Section.{Section}
-use Rattle.gt_model.specs.declared.symbols.Symbol.{Symbol}
 use Rattle.gt_model.specs.declared.symbols.Payload.TheVariants as payloads
 use Rattle.sym_expr.specs.declared.layout.Layout.{Layout}
-use Rattle.sym_expr.specs.declared.image.LinkFault.{LinkFault}
 use Rattle.sym_expr.specs.declared.image.LinkFault.TheVariants as faults
 use Rattle.sym_expr.specs.Images.{image, link_fault}
 use Rattle.sym_expr.specs.Placing.{shape_of}
@@ -31,19 +27,42 @@ text = record {
   uuid = u 4;
   blocks = record { offset = 0; body = bodies.Code (u 5) 36 0 } ∷ [];
   exprs = record { at = 4; value = values.AddrConst (pos 0) (Some (u 10)); flags = [] } ∷ record { at = 8; value = values.AddrConst (pos 0) (Some (u 10)); flags = [] } ∷ [];
-  has_address = false; address = 0; size = 36;
+  has_address = false;
+  address = 0;
+  size = 36;
   contents = 0x20 ∷ 0x00 ∷ 0x80 ∷ 0xd2 ∷ 0x01 ∷ 0x00 ∷ 0x00 ∷ 0x90 ∷ 0x21 ∷ 0x00 ∷ 0x00 ∷ 0x91 ∷ 0x62 ∷ 0x00 ∷ 0x80 ∷ 0xd2 ∷ 0x08 ∷ 0x08 ∷ 0x80 ∷ 0xd2 ∷ 0x01 ∷ 0x00 ∷ 0x00 ∷ 0xd4 ∷ 0x00 ∷ 0x00 ∷ 0x80 ∷ 0xd2 ∷ 0xa8 ∷ 0x0b ∷ 0x80 ∷ 0xd2 ∷ 0x01 ∷ 0x00 ∷ 0x00 ∷ 0xd4 ∷ [];
 }
 
 abbrev pub hello : Module
 hello = record {
-  uuid = u 2; binary_path = []; preferred_addr = 0; rebase_delta = pos 0; file_format = pos 0; isa = pos 7; name = [];
+  uuid = u 2;
+  binary_path = [];
+  preferred_addr = 0;
+  rebase_delta = pos 0;
+  file_format = pos 0;
+  isa = pos 7;
+  name = [];
   symbols = record { uuid = u 9; name = codes "main"; at_end = false; payload = payloads.Referent (u 5) } ∷ record { uuid = u 10; name = codes "msg"; at_end = false; payload = payloads.Referent (u 8) } ∷ [];
   sections =
-    record { uuid = u 3; name = codes ".text"; flags = pos 1 ∷ pos 3 ∷ pos 4 ∷ pos 5 ∷ []; intervals = text ∷ [] }
-    ∷ record { uuid = u 6; name = codes ".data"; flags = pos 1 ∷ pos 2 ∷ pos 4 ∷ pos 5 ∷ []; intervals = record {
-        uuid = u 7; blocks = record { offset = 0; body = bodies.Data (u 8) 3 } ∷ []; exprs = []; has_address = false; address = 0; size = 3; contents = 0x68 ∷ 0x69 ∷ 0x0a ∷ [] } ∷ [] } ∷ [];
-  proxies = []; aux = []; entry = Some (u 5); byte_order = pos 2;
+      record { uuid = u 3; name = codes ".text"; flags = pos 1 ∷ pos 3 ∷ pos 4 ∷ pos 5 ∷ []; intervals = text ∷ [] }
+      ∷ record {
+        uuid = u 6;
+        name = codes ".data";
+        flags = pos 1 ∷ pos 2 ∷ pos 4 ∷ pos 5 ∷ [];
+        intervals = record {
+          uuid = u 7;
+          blocks = record { offset = 0; body = bodies.Data (u 8) 3 } ∷ [];
+          exprs = [];
+          has_address = false;
+          address = 0;
+          size = 3;
+          contents = 0x68 ∷ 0x69 ∷ 0x0a ∷ [];
+        } ∷ [];
+      } ∷ [];
+  proxies = [];
+  aux = [];
+  entry = Some (u 5);
+  byte_order = pos 2;
 }
 
 abbrev pub at_places : ℕ → ℕ → ℕ → ℕ → Layout
@@ -53,9 +72,12 @@ near : (link_fault (program hello no_tables no_patches) (at_places 0x1000 0x5010
 near = refl
 
 near_image : (image (program hello no_tables no_patches) (at_places 0x1000 0x5010 0x10000 0x1000)) ≡ record {
-  entry = 0x1000; stack_at = 0x10000; stack_size = 0x1000;
+  entry = 0x1000;
+  stack_at = 0x10000;
+  stack_size = 0x1000;
   segments = record { at = 0x1000; bytes = 0x20 ∷ 0x00 ∷ 0x80 ∷ 0xd2 ∷ 0x21 ∷ 0x00 ∷ 0x00 ∷ 0x90 ∷ 0x21 ∷ 0x40 ∷ 0x00 ∷ 0x91 ∷ 0x62 ∷ 0x00 ∷ 0x80 ∷ 0xd2 ∷ 0x08 ∷ 0x08 ∷ 0x80 ∷ 0xd2 ∷ 0x01 ∷ 0x00 ∷ 0x00 ∷ 0xd4 ∷ 0x00 ∷ 0x00 ∷ 0x80 ∷ 0xd2 ∷ 0xa8 ∷ 0x0b ∷ 0x80 ∷ 0xd2 ∷ 0x01 ∷ 0x00 ∷ 0x00 ∷ 0xd4 ∷ [] }
-    ∷ record { at = 0x5010; bytes = 0x68 ∷ 0x69 ∷ 0x0a ∷ [] } ∷ [] }
+      ∷ record { at = 0x5010; bytes = 0x68 ∷ 0x69 ∷ 0x0a ∷ [] } ∷ [];
+}
 near_image = refl
 
 default_layout : default_of (shape_of (program hello no_tables no_patches)) ≡ at_places 0x10000 0x10024 0x11030 0x10000
@@ -70,7 +92,9 @@ table_text = record {
   uuid = u 4;
   blocks = record { offset = 0; body = bodies.Code (u 5) 24 0 } ∷ record { offset = 24; body = bodies.Code (u 11) 4 0 } ∷ record { offset = 28; body = bodies.Code (u 12) 8 0 } ∷ [];
   exprs = record { at = 0; value = values.AddrConst (pos 0) (Some (u 10)); flags = [] } ∷ record { at = 4; value = values.AddrConst (pos 0) (Some (u 10)); flags = [] } ∷ record { at = 12; value = values.AddrConst (pos 0) (Some (u 9)); flags = [] } ∷ [];
-  has_address = false; address = 0; size = 36;
+  has_address = false;
+  address = 0;
+  size = 36;
   contents = 0x01 ∷ 0x00 ∷ 0x00 ∷ 0x90 ∷ 0x21 ∷ 0x00 ∷ 0x00 ∷ 0x91 ∷ 0x23 ∷ 0x04 ∷ 0x40 ∷ 0x39 ∷ 0x04 ∷ 0x00 ∷ 0x00 ∷ 0x10 ∷ 0x83 ∷ 0x88 ∷ 0x23 ∷ 0x8b ∷ 0x60 ∷ 0x00 ∷ 0x1f ∷ 0xd6 ∷ 0x20 ∷ 0x01 ∷ 0x80 ∷ 0xd2 ∷ 0xa8 ∷ 0x0b ∷ 0x80 ∷ 0xd2 ∷ 0x01 ∷ 0x00 ∷ 0x00 ∷ 0xd4 ∷ [];
 }
 
@@ -81,9 +105,21 @@ abbrev pub table : Module
 table = record hello {
   symbols = record { uuid = u 9; name = codes "base"; at_end = false; payload = payloads.Referent (u 11) } ∷ record { uuid = u 10; name = codes "tab"; at_end = false; payload = payloads.Referent (u 8) } ∷ record { uuid = u 14; name = codes "two"; at_end = false; payload = payloads.Referent (u 12) } ∷ [];
   sections =
-    record { uuid = u 3; name = codes ".text"; flags = pos 4 ∷ []; intervals = table_text ∷ [] }
-    ∷ record { uuid = u 6; name = codes ".data"; flags = pos 4 ∷ []; intervals = record {
-        uuid = u 7; blocks = record { offset = 0; body = bodies.Data (u 8) 2 } ∷ []; exprs = entry_to 0 9 ∷ entry_to 1 14 ∷ []; has_address = false; address = 0; size = 2; contents = 0 ∷ 0 ∷ [] } ∷ [] } ∷ [];
+      record { uuid = u 3; name = codes ".text"; flags = pos 4 ∷ []; intervals = table_text ∷ [] }
+      ∷ record {
+        uuid = u 6;
+        name = codes ".data";
+        flags = pos 4 ∷ [];
+        intervals = record {
+          uuid = u 7;
+          blocks = record { offset = 0; body = bodies.Data (u 8) 2 } ∷ [];
+          exprs = entry_to 0 9 ∷ entry_to 1 14 ∷ [];
+          has_address = false;
+          address = 0;
+          size = 2;
+          contents = 0 ∷ 0 ∷ [];
+        } ∷ [];
+      } ∷ [];
 }
 
 abbrev pub table_sizes : Tables
@@ -114,7 +150,9 @@ narrow_255 = refl
 abbrev pub aligned_text : Interval
 aligned_text = record table_text {
   blocks = record { offset = 0; body = bodies.Code (u 5) 8 0 } ∷ record { offset = 8; body = bodies.Data (u 8) 8 } ∷ [];
-  exprs = record { at = 8; value = values.AddrAddr (pos 1) (pos 0) (Some (u 10)) (Some (u 9)); flags = [] } ∷ []; size = 16; contents = 0x1f ∷ 0x20 ∷ 0x03 ∷ 0xd5 ∷ 0x1f ∷ 0x20 ∷ 0x03 ∷ 0xd5 ∷ 0x01 ∷ 0x00 ∷ 0x00 ∷ 0x00 ∷ 0x02 ∷ 0x00 ∷ 0x00 ∷ 0x00 ∷ [];
+  exprs = record { at = 8; value = values.AddrAddr (pos 1) (pos 0) (Some (u 10)) (Some (u 9)); flags = [] } ∷ [];
+  size = 16;
+  contents = 0x1f ∷ 0x20 ∷ 0x03 ∷ 0xd5 ∷ 0x1f ∷ 0x20 ∷ 0x03 ∷ 0xd5 ∷ 0x01 ∷ 0x00 ∷ 0x00 ∷ 0x00 ∷ 0x02 ∷ 0x00 ∷ 0x00 ∷ 0x00 ∷ [];
 }
 
 abbrev pub aligned : Program
@@ -122,7 +160,7 @@ aligned = program (record hello {
   symbols = record { uuid = u 9; name = codes "a"; at_end = false; payload = payloads.Referent (u 5) } ∷ record { uuid = u 10; name = codes "b"; at_end = true; payload = payloads.Referent (u 5) } ∷ [];
   sections = record { uuid = u 3; name = codes ".text"; flags = pos 4 ∷ []; intervals = aligned_text ∷ [] } ∷ [];
 }) (record { alignment = (u 8, 8) ∷ []; sizes = ((u 4, 8), 4) ∷ [] })
-  (record { inserts = record { block = u 5; offset = 0; body = record { word = 0xD503201F; target = None } ∷ [] } ∷ []; functions = [] })
+    (record { inserts = record { block = u 5; offset = 0; body = record { word = 0xD503201F; target = None } ∷ [] } ∷ []; functions = [] })
 
 realigned : shape_of aligned ≡ record { spots = record { interval = u 4; size = 24; align = 8; residue = None } ∷ [] }
 realigned = refl

@@ -13,3 +13,7 @@ pub mod Shapes
 pub mod Layouts
 pub mod Placing
 pub mod Images
+pub mod Values
+pub mod States
+pub mod Symbolic
+pub mod Steps

@@ -1,5 +1,5 @@
 -- Modules that have a program: each list names, in order, what is wrong with a module (the rules are ours).
-use Rattle.std.specs.Prelude.{◌≡◌, ℕ, ◌%◌, ◌^◌, ◌<◌, ◌≤◌, Bool, false, ◌==◌, ◌&&◌, not, nat_lt, IsTrue, List, [], length, map, filter, sum_by, drop, Contains}
+use Rattle.std.specs.Prelude.{◌≡◌, ℕ, ◌%◌, ◌^◌, ◌<◌, ◌≤◌, Bool, false, ◌==◌, ◌&&◌, not, nat_lt, IsTrue, List, [], length, filter, sum_by, drop, Contains}
 use Rattle.std.specs.List.{flat_map, list_any, zip}
 use Rattle.std.specs.Option.{option_map_or}
 use Rattle.gt_model.specs.declared.intervals.Block.{Block}
@@ -10,7 +10,7 @@ use Rattle.gt_model.specs.declared.modules.Section.{Section}
 use Rattle.gt_model.specs.Linked.{well_linked}
 use Rattle.gt_model.specs.Ordered.{ordered}
 use Rattle.sym_expr.specs.Expressions.{expr_faults}
-use Rattle.sym_expr.specs.Modules.{has_flag, loaded_sections, loaded_intervals, blocks_of, id_of, size_of, end_of, is_code, in_order, has_id}
+use Rattle.sym_expr.specs.Modules.{has_flag, loaded_sections, loaded_intervals, blocks_of, size_of, end_of, is_code, in_order, has_id}
 use Rattle.sym_expr.specs.Tables.{Tables}
 
 -- the sections that are thread-local

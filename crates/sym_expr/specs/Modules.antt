@@ -1,5 +1,5 @@
 -- The parts of a module that programs are made of: loaded sections, their intervals and bytes, blocks in order.
-use Rattle.std.specs.Prelude.{ℕ, zero, suc, ◌+◌, ℤ, pos, Bool, true, false, ◌==◌, ◌&&◌, ◌||◌, not, nat_lt, nat_le, if◌then◌else◌, List, [], ◌∷◌, slice_index, filter, find, Option}
+use Rattle.std.specs.Prelude.{ℕ, zero, suc, ◌+◌, pos, Bool, true, false, ◌==◌, ◌&&◌, ◌||◌, not, nat_lt, nat_le, if◌then◌else◌, List, [], ◌∷◌, slice_index, filter, find, Option}
 use Rattle.std.specs.Int.{w32, from_le_bytes}
 use Rattle.std.specs.List.{list_any, flat_map}
 use Rattle.std.specs.Ordering.{int_eq}
@@ -10,6 +10,7 @@ use Rattle.gt_model.specs.declared.intervals.Body.TheVariants as bodies
 use Rattle.gt_model.specs.declared.intervals.Interval.{Interval}
 use Rattle.gt_model.specs.declared.modules.Module.{Module}
 use Rattle.gt_model.specs.declared.modules.Section.{Section}
+use Rattle.uuid.specs.Parts.{zero_bytes}
 
 -- the section has a flag: GTIRB's Loaded is 4, ThreadLocal 6
 abbrev pub has_flag : ℕ → Section → Bool
@@ -30,9 +31,9 @@ loaded_intervals m = intervals_of (loaded_sections m)
 abbrev pub blocks_of : List Interval → List Block
 blocks_of intervals = flat_map (λ (i : Interval). i.blocks) intervals
 
--- the identifier of a block, where it has one, and its size
+-- the identifier of a block, nil for one that has none, and its size
 abbrev pub id_of_body : Body → List ℕ
-id_of_body bodies.Bare = []
+id_of_body bodies.Bare = zero_bytes
 id_of_body (bodies.Code uuid size decode_mode) = uuid
 id_of_body (bodies.Data uuid size) = uuid
 

@@ -2,6 +2,8 @@
 #![tactic(auto)]
 
 #[cfg(test)]
+mod line_words;
+#[cfg(test)]
 mod table_values;
 #[cfg(test)]
 mod type_texts;

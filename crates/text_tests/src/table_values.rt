@@ -2,7 +2,7 @@ ghost use Rattle.std.specs.Prelude.{nat_eq, cond};
 
 use aux_codec::{Place, Places, decode_aux, encode_aux, map_places};
 use aux_types::parse_type;
-use gr_base::{AuxFault, End};
+use gr_base::{AuxFault, Bytes, End};
 use std::alloc::{AllocError, Global};
 use std::test::Fail;
 
@@ -99,6 +99,7 @@ fn the_first_fault_is_named(rt: HostRuntime) {
 }
 
 /// Two offsets that change places.
+#[derive(Drop)]
 struct Swap {
     first: u64,
     second: u64,
@@ -136,25 +137,36 @@ fn put_place(bytes: &mut Vec<u8>, offset: u8) -> Result<(), AllocError> {
     bytes.extend_from_slice(&[offset, 0, 0, 0, 0, 0, 0, 0])
 }
 
+/// The bytes of a table with two offsets swapped, if it has the type.
+fn swapped(
+    alloc: Global,
+    of: &str,
+    bytes: &[u8],
+    swap: &Swap,
+) -> Result<Option<Bytes>, AllocError> {
+    let Ok(of) = parse_type(alloc, of) else {
+        return Ok(None);
+    };
+    let Ok(mut value) = decode_aux(alloc, &of, bytes) else {
+        return Ok(None);
+    };
+    map_places(&mut value, swap);
+    Ok(Some(encode_aux(alloc, &of, &value)?))
+}
+
 #[test]
 fn places_are_replaced(rt: HostRuntime) -> Result<(), Fail> {
     let alloc = rt.alloc();
-    let name = "mapping<Offset,tuple<uint64_t,set<Offset>,variant<bool,Offset>>>";
-    let Ok(of) = parse_type(alloc, name) else {
-        panic!(rt; "no type");
+    let of = "mapping<Offset,tuple<uint64_t,set<Offset>,variant<bool,Offset>>>";
+    let swap = Swap {
+        first: 8,
+        second: 24,
     };
     let before = table(alloc, 8, 24, 40)?;
-    let Ok(mut value) = decode_aux(alloc, &of, before.as_slice()) else {
+    let after = table(alloc, 24, 8, 40)?;
+    let Some(found) = swapped(alloc, of, before.as_slice(), &swap)? else {
         panic!(rt; "no value");
     };
-    map_places(
-        &mut value,
-        &Swap {
-            first: 8,
-            second: 24,
-        },
-    );
-    let after = table(alloc, 24, 8, 40)?;
-    assert!(rt; encode_aux(alloc, &of, &value)?.as_slice() == after.as_slice());
+    assert!(rt; found.as_slice() == after.as_slice());
     Ok(())
 }

@@ -77,6 +77,11 @@ abbrev pub EntersRun : {D : Type 0} (starts : ℕ → D → Type 0) (steps : D �
 EntersRun starts steps old None new = new ≡ old
 EntersRun {D} starts steps old (Some r) new = (draft : D) × (new ≡ Some draft) × Entered starts steps old r.place (pieces r.bytes r.start) draft
 
+-- a oneof after one more record of a member
+abbrev pub TakesMember : {D O : Type 0} (starts : ℕ → D → Type 0) (steps : D → spec.Piece → D → Type 0) (member : O → Option D) (made : D → O) → O → Option Run → O → Type 0
+TakesMember starts steps member made old None new = new ≡ old
+TakesMember {D} {O} starts steps member made old (Some r) new = (draft : D) × (new ≡ made draft) × Entered starts steps (member old) r.place (pieces r.bytes r.start) draft
+
 -- repeated messages after one more record
 abbrev pub AddsRun : {D A : Type 0} (starts : ℕ → D → Type 0) (steps : D → spec.Piece → D → Type 0) (finishes : D → A → Option IdFault → Type 0) → List A → Option IdFault → Option Run → List A → Option IdFault → Type 0
 AddsRun starts steps finishes items fault None items' fault' = (items' ≡ items) × (fault' ≡ fault)

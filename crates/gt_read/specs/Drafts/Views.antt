@@ -41,12 +41,10 @@ use Rattle.gt_read.specs.declared.module_drafts.TableEntry.{TableEntry}
 use Rattle.gt_read.specs.declared.module_drafts.SectionDraft.{SectionDraft}
 use Rattle.gt_read.specs.declared.module_drafts.ModuleDraft.{ModuleDraft}
 use Rattle.gt_read.specs.declared.module_drafts.IrDraft.{IrDraft}
-use Rattle.gt_read.specs.Pieces.{Carried, Number, Bytes, Fixed, pieces}
-use Rattle.gt_read.specs.Kinds.{Run}
+use Rattle.gt_read.specs.Pieces.{Carried, Number, Bytes, Fixed}
 use Rattle.gt_read.specs.Drafts.Draft.{DFields, identifier, finished_plain, finished, worst, plain_fault, fault_if}
 use Rattle.gt_read.specs.Drafts.Entries.{entry_rows}
 use Rattle.gt_read.specs.Identifiers.{earlier}
-use Rattle.gt_read.specs.Drafts.Answers.{Starts, Steps, Entered}
 
 -- ---- edges
 
@@ -107,15 +105,6 @@ expr_held e = (e.0, (expr_parts e.1.parts, e.1.fault))
 abbrev pub expr_finished : ℕ × HeldExpr → ℕ × Fields Plain expr_rows
 expr_finished e = (e.0, expr_parts e.1.parts)
 
--- a member of a oneof after one more record
-abbrev pub TakesConst : ValueDraft → Option Run → ValueDraft → Type 0
-TakesConst old None new = new ≡ old
-TakesConst old (Some r) new = (draft : AddrConstDraft) × (new ≡ values.AddrConst draft) × Entered (Starts addr_const_rows addr_const_draft) (Steps addr_const_rows addr_const_draft) (const_of old) r.place (pieces r.bytes r.start) draft
-
-abbrev pub TakesAddr : ValueDraft → Option Run → ValueDraft → Type 0
-TakesAddr old None new = new ≡ old
-TakesAddr old (Some r) new = (draft : AddrAddrDraft) × (new ≡ values.AddrAddr draft) × Entered (Starts addr_addr_rows addr_addr_draft) (Steps addr_addr_rows addr_addr_draft) (addr_of old) r.place (pieces r.bytes r.start) draft
-
 -- what a oneof comes to, and the fault in it
 pub record FinishesValue (draft : ValueDraft) (made : ExprValue) (fault : Option IdFault) : Type 0 where
   pub addr_const : addr_const_value made ≡ option_map (finished addr_const_rows) (option_map addr_const_draft (const_of draft))
@@ -151,14 +140,6 @@ data_of (bodies.Data draft) = Some draft
 unfoldable pub block_draft : BlockDraft → DFields block_rows
 unfolding block_rows
 block_draft b = b.offset ▹ option_map code_draft (code_of b.body) ▹ option_map data_draft (data_of b.body) ▹ tt
-
-abbrev pub TakesCode : BodyDraft → Option Run → BodyDraft → Type 0
-TakesCode old None new = new ≡ old
-TakesCode old (Some r) new = (draft : CodeDraft) × (new ≡ bodies.Code draft) × Entered (Starts code_rows code_draft) (Steps code_rows code_draft) (code_of old) r.place (pieces r.bytes r.start) draft
-
-abbrev pub TakesData : BodyDraft → Option Run → BodyDraft → Type 0
-TakesData old None new = new ≡ old
-TakesData old (Some r) new = (draft : DataDraft) × (new ≡ bodies.Data draft) × Entered (Starts data_rows data_draft) (Steps data_rows data_draft) (data_of old) r.place (pieces r.bytes r.start) draft
 
 pub record FinishesBody (draft : BodyDraft) (made : Body) (fault : Option IdFault) : Type 0 where
   pub code : code_value made ≡ option_map (finished code_rows) (option_map code_draft (code_of draft))

@@ -12,7 +12,7 @@ use Rattle.aux_codec.specs.Value.{value_of, entry_of, values}
 use Rattle.aux_codec.specs.Spelling.{spelling}
 use Rattle.aux_codec.specs.Reading.{place, members, distinct, pairs, parts_at, value_at}
 use Rattle.aux_codec.proofs.Chosen.{chosen_is, chosen_none, nesting_of_part, next_is, taken_is}
-use Rattle.aux_codec.proofs.Loops.{members_fail, members_go_on, members_done, distinct_starts, distinct_fail, distinct_twice, distinct_go_on, distinct_done, pairs_start, pairs_fail, pairs_twice, pairs_value_fail, pairs_go_on, pairs_done, parts_fail, parts_go_on, parts_done, not_false, not_true, fails_on}
+use Rattle.aux_codec.proofs.Loops.{members_fail, members_go_on, members_done, distinct_starts, distinct_refused, distinct_go_on, distinct_done, pairs_start, pairs_refused, pairs_value_fail, pairs_go_on, pairs_done, parts_fail, parts_go_on, parts_done, fresh_ok, not_false, not_true, fails_on}
 use Rattle.aux_codec.proofs.Takes.{value_takes}
 use Rattle.aux_codec.proofs.Views.{value_choice}
 use Rattle.aux_codec.proofs.decode.+value_at.Goals as goal
@@ -34,30 +34,42 @@ pub distinct-loop-init : goal.distinct-loop-init
 distinct-loop-init t c =
     rw (c.new-seen.ensures, c.new-found.ensures.items, sub-zero) (distinct_starts c.args.total (value_at c.args.total (shape_of c.args.of.now)) (spelling (shape_of c.args.of.now)) c.args.count c.args.bytes.now (λ i. omega (arith, c.type_inv.bytes i)))
 
+pub fresh_at-taken-requires : goal.fresh_at-taken-requires
+fresh_at-taken-requires t c =
+    let p = value_takes c.args.total (shape_of c.args.of.now) c.args.bytes.now (value_of c.in_ok-value.value, c.in_ok-value.after.now) (λ i. omega (arith, c.type_inv.bytes i)) c.in_ok-value.ensures in
+    omega (arith, ap length p.0.parts, length-append (spelling (shape_of c.args.of.now) (value_of c.in_ok-value.value)) c.in_ok-value.after.now)
+
+pub fresh_at-returns-then-not-branch-clause-read : goal.fresh_at-returns-then-not-branch-clause-read
+fresh_at-returns-then-not-branch-clause-read t c =
+    let p = value_takes c.args.total (shape_of c.args.of.now) c.args.bytes.now (value_of c.in_ok-value.value, c.in_ok-value.after.now) (λ i. omega (arith, c.type_inv.bytes i)) c.in_ok-value.ensures in
+    let bytes : c.taken.result.now ≡ spelling (shape_of c.args.of.now) (value_of c.in_ok-value.value) = c.taken.ensures ∙ taken_is c.args.bytes.now (spelling (shape_of c.args.of.now) (value_of c.in_ok-value.value)) c.in_ok-value.after.now p.0.parts in
+    let there : list_any (bytes_eq (spelling (shape_of c.args.of.now) (value_of c.in_ok-value.value))) c.args.seen.now ≡ true = not_false _ (sym (rw (bytes, c.if-not-branch.true) at c.in_ok-insert.ensures.added)) in
+    rw (c.in_ok-value.ensures, there, c.place.ensures) refl
+
+pub fresh_at-returns-clause-read : goal.fresh_at-returns-clause-read
+fresh_at-returns-clause-read t c =
+    let p = value_takes c.args.total (shape_of c.args.of.now) c.args.bytes.now (value_of c.in_ok-value.value, c.in_ok-value.after.now) (λ i. omega (arith, c.type_inv.bytes i)) c.in_ok-value.ensures in
+    let bytes : c.taken.result.now ≡ spelling (shape_of c.args.of.now) (value_of c.in_ok-value.value) = c.taken.ensures ∙ taken_is c.args.bytes.now (spelling (shape_of c.args.of.now) (value_of c.in_ok-value.value)) c.in_ok-value.after.now p.0.parts in
+    let new : list_any (bytes_eq (spelling (shape_of c.args.of.now) (value_of c.in_ok-value.value))) c.args.seen.now ≡ false = not_true _ (sym (rw (bytes, c.if-not-branch.false) at c.in_ok-insert.ensures.added)) in
+    rw (c.in_ok-value.ensures, new) refl
+
+pub fresh_at-returns-clause-has : goal.fresh_at-returns-clause-has
+fresh_at-returns-clause-has t c =
+    let p = value_takes c.args.total (shape_of c.args.of.now) c.args.bytes.now (value_of c.in_ok-value.value, c.in_ok-value.after.now) (λ i. omega (arith, c.type_inv.bytes i)) c.in_ok-value.ensures in
+    let bytes : c.taken.result.now ≡ spelling (shape_of c.args.of.now) (value_of c.in_ok-value.value) = c.taken.ensures ∙ taken_is c.args.bytes.now (spelling (shape_of c.args.of.now) (value_of c.in_ok-value.value)) c.in_ok-value.after.now p.0.parts in
+    rw bytes at c.in_ok-insert.ensures.has
+
 pub distinct-returns-in_err-value : goal.distinct-returns-in_err-value
 distinct-returns-in_err-value t c =
     let p = err_from_is_err_and c.from_residual.result c.from_residual.ensures.1 in
-    rw (p.1, p.2) (distinct_fail c.args.total (value_at c.args.total (shape_of c.args.of.now)) (spelling (shape_of c.args.of.now)) c.loop.seen (map value_of c.loop.found.items) c.args.count c.loop.counter c.loop.rest.now (distinct c.args.total (value_at c.args.total (shape_of c.args.of.now)) (spelling (shape_of c.args.of.now)) [] c.args.count c.args.bytes.now) c.loop.invariant c.in_err-value.field-0.0 c.loop-test.true c.in_err-value.ensures)
-
-pub distinct-taken-requires : goal.distinct-taken-requires
-distinct-taken-requires t c =
-    let p = value_takes c.args.total (shape_of c.args.of.now) c.loop.rest.now (value_of c.in_ok-value.value, c.in_ok-value.after.now) c.loop.invariant.fits c.in_ok-value.ensures in
-    omega (arith, ap length p.0.parts, length-append (spelling (shape_of c.args.of.now) (value_of c.in_ok-value.value)) c.in_ok-value.after.now)
-
-pub distinct-returns-then-not-branch : goal.distinct-returns-then-not-branch
-distinct-returns-then-not-branch t c =
-    let p = value_takes c.args.total (shape_of c.args.of.now) c.loop.rest.now (value_of c.in_ok-value.value, c.in_ok-value.after.now) c.loop.invariant.fits c.in_ok-value.ensures in
-    let bytes : c.taken.result.now ≡ spelling (shape_of c.args.of.now) (value_of c.in_ok-value.value) = c.taken.ensures ∙ taken_is c.loop.rest.now (spelling (shape_of c.args.of.now) (value_of c.in_ok-value.value)) c.in_ok-value.after.now p.0.parts in
-    let there : list_any (bytes_eq (spelling (shape_of c.args.of.now) (value_of c.in_ok-value.value))) c.loop.seen ≡ true = not_false _ (sym (rw (bytes, c.if-not-branch.true) at c.in_ok-insert.ensures.added)) in
-    rw c.place.ensures (distinct_twice c.args.total (value_at c.args.total (shape_of c.args.of.now)) (spelling (shape_of c.args.of.now)) c.loop.seen (map value_of c.loop.found.items) c.args.count c.loop.counter c.loop.rest.now (distinct c.args.total (value_at c.args.total (shape_of c.args.of.now)) (spelling (shape_of c.args.of.now)) [] c.args.count c.args.bytes.now) c.loop.invariant (value_of c.in_ok-value.value) c.in_ok-value.after.now c.loop-test.true c.in_ok-value.ensures there)
+    rw (p.1, p.2) (distinct_refused c.args.total (value_at c.args.total (shape_of c.args.of.now)) (spelling (shape_of c.args.of.now)) c.loop.seen (map value_of c.loop.found.items) c.args.count c.loop.counter c.loop.rest.now (distinct c.args.total (value_at c.args.total (shape_of c.args.of.now)) (spelling (shape_of c.args.of.now)) [] c.args.count c.args.bytes.now) c.loop.invariant c.in_err-value.field-0.0 c.loop-test.true c.in_err-value.ensures.read)
 
 pub distinct-loop-preserved : goal.distinct-loop-preserved
 distinct-loop-preserved t c =
-    let p = value_takes c.args.total (shape_of c.args.of.now) c.loop.rest.now (value_of c.in_ok-value.value, c.in_ok-value.after.now) c.loop.invariant.fits c.in_ok-value.ensures in
-    let bytes : c.taken.result.now ≡ spelling (shape_of c.args.of.now) (value_of c.in_ok-value.value) = c.taken.ensures ∙ taken_is c.loop.rest.now (spelling (shape_of c.args.of.now) (value_of c.in_ok-value.value)) c.in_ok-value.after.now p.0.parts in
-    let new : list_any (bytes_eq (spelling (shape_of c.args.of.now) (value_of c.in_ok-value.value))) c.loop.seen ≡ false = not_true _ (sym (rw (bytes, c.if-not-branch.false) at c.in_ok-insert.ensures.added)) in
+    let f = fresh_ok c.args.total (value_at c.args.total (shape_of c.args.of.now)) (spelling (shape_of c.args.of.now)) c.loop.seen c.loop.rest.now (value_of c.in_ok-value.value, c.in_ok-value.after.now) c.in_ok-value.ensures.read in
+    let p = value_takes c.args.total (shape_of c.args.of.now) c.loop.rest.now (value_of c.in_ok-value.value, c.in_ok-value.after.now) c.loop.invariant.fits f.0 in
     let pushed : map value_of c.push.new.self.items ≡ map value_of c.loop.found.items ++ value_of c.in_ok-value.value ∷ [] = rw c.in_ok-push.ensures.items (map_push value_of c.loop.found.items c.in_ok-value.value) in
-    rw pushed (distinct_go_on c.args.total (value_at c.args.total (shape_of c.args.of.now)) (spelling (shape_of c.args.of.now)) c.loop.seen (map value_of c.loop.found.items) c.args.count c.loop.counter c.loop.rest.now (distinct c.args.total (value_at c.args.total (shape_of c.args.of.now)) (spelling (shape_of c.args.of.now)) [] c.args.count c.args.bytes.now) c.loop.invariant (value_of c.in_ok-value.value) c.in_ok-value.after.now c.insert.new.self c.loop-test.true p.0.left c.in_ok-value.ensures new (rw bytes at c.in_ok-insert.ensures.has))
+    rw pushed (distinct_go_on c.args.total (value_at c.args.total (shape_of c.args.of.now)) (spelling (shape_of c.args.of.now)) c.loop.seen (map value_of c.loop.found.items) c.args.count c.loop.counter c.loop.rest.now (distinct c.args.total (value_at c.args.total (shape_of c.args.of.now)) (spelling (shape_of c.args.of.now)) [] c.args.count c.args.bytes.now) c.loop.invariant (value_of c.in_ok-value.value) c.in_ok-value.after.now c.fresh_at.new.seen c.loop-test.true p.0.left f.0 f.1 c.in_ok-value.ensures.has)
 
 pub distinct-returns : goal.distinct-returns
 distinct-returns t c = distinct_done c.args.total (value_at c.args.total (shape_of c.args.of.now)) (spelling (shape_of c.args.of.now)) c.loop.seen (map value_of c.loop.found.items) c.args.count c.loop.counter c.loop.rest.now (distinct c.args.total (value_at c.args.total (shape_of c.args.of.now)) (spelling (shape_of c.args.of.now)) [] c.args.count c.args.bytes.now) c.loop.invariant c.loop-test.false
@@ -69,36 +81,21 @@ pairs-loop-init t c =
 pub pairs-returns-in_err-key : goal.pairs-returns-in_err-key
 pairs-returns-in_err-key t c =
     let p = err_from_is_err_and c.from_residual.result c.from_residual.ensures.1 in
-    rw (p.1, p.2) (pairs_fail c.args.total (value_at c.args.total (shape_of c.args.key_type.now)) (spelling (shape_of c.args.key_type.now)) (value_at c.args.total (shape_of c.args.value_type.now)) c.loop.seen (map entry_of c.loop.found.items) c.args.count c.loop.counter c.loop.rest.now (pairs c.args.total (value_at c.args.total (shape_of c.args.key_type.now)) (spelling (shape_of c.args.key_type.now)) (value_at c.args.total (shape_of c.args.value_type.now)) [] c.args.count c.args.bytes.now) c.loop.invariant c.in_err-key.field-0.0 c.loop-test.true c.in_err-key.ensures)
-
-pub pairs-taken-requires : goal.pairs-taken-requires
-pairs-taken-requires t c =
-    let p = value_takes c.args.total (shape_of c.args.key_type.now) c.loop.rest.now (value_of c.in_ok-key.key, c.in_ok-key.after.now) c.loop.invariant.fits c.in_ok-key.ensures in
-    omega (arith, ap length p.0.parts, length-append (spelling (shape_of c.args.key_type.now) (value_of c.in_ok-key.key)) c.in_ok-key.after.now)
-
-pub pairs-returns-then-not-branch : goal.pairs-returns-then-not-branch
-pairs-returns-then-not-branch t c =
-    let p = value_takes c.args.total (shape_of c.args.key_type.now) c.loop.rest.now (value_of c.in_ok-key.key, c.in_ok-key.after.now) c.loop.invariant.fits c.in_ok-key.ensures in
-    let bytes : c.taken.result.now ≡ spelling (shape_of c.args.key_type.now) (value_of c.in_ok-key.key) = c.taken.ensures ∙ taken_is c.loop.rest.now (spelling (shape_of c.args.key_type.now) (value_of c.in_ok-key.key)) c.in_ok-key.after.now p.0.parts in
-    let there : list_any (bytes_eq (spelling (shape_of c.args.key_type.now) (value_of c.in_ok-key.key))) c.loop.seen ≡ true = not_false _ (sym (rw (bytes, c.if-not-branch.true) at c.in_ok-insert.ensures.added)) in
-    rw c.place.ensures (pairs_twice c.args.total (value_at c.args.total (shape_of c.args.key_type.now)) (spelling (shape_of c.args.key_type.now)) (value_at c.args.total (shape_of c.args.value_type.now)) c.loop.seen (map entry_of c.loop.found.items) c.args.count c.loop.counter c.loop.rest.now (pairs c.args.total (value_at c.args.total (shape_of c.args.key_type.now)) (spelling (shape_of c.args.key_type.now)) (value_at c.args.total (shape_of c.args.value_type.now)) [] c.args.count c.args.bytes.now) c.loop.invariant (value_of c.in_ok-key.key) c.in_ok-key.after.now c.loop-test.true c.in_ok-key.ensures there)
+    rw (p.1, p.2) (pairs_refused c.args.total (value_at c.args.total (shape_of c.args.key_type.now)) (spelling (shape_of c.args.key_type.now)) (value_at c.args.total (shape_of c.args.value_type.now)) c.loop.seen (map entry_of c.loop.found.items) c.args.count c.loop.counter c.loop.rest.now (pairs c.args.total (value_at c.args.total (shape_of c.args.key_type.now)) (spelling (shape_of c.args.key_type.now)) (value_at c.args.total (shape_of c.args.value_type.now)) [] c.args.count c.args.bytes.now) c.loop.invariant c.in_err-key.field-0.0 c.loop-test.true c.in_err-key.ensures.read)
 
 pub pairs-returns-in_err-value : goal.pairs-returns-in_err-value
 pairs-returns-in_err-value t c =
-    let p = value_takes c.args.total (shape_of c.args.key_type.now) c.loop.rest.now (value_of c.in_ok-key.key, c.in_ok-key.after.now) c.loop.invariant.fits c.in_ok-key.ensures in
-    let bytes : c.taken.result.now ≡ spelling (shape_of c.args.key_type.now) (value_of c.in_ok-key.key) = c.taken.ensures ∙ taken_is c.loop.rest.now (spelling (shape_of c.args.key_type.now) (value_of c.in_ok-key.key)) c.in_ok-key.after.now p.0.parts in
-    let new : list_any (bytes_eq (spelling (shape_of c.args.key_type.now) (value_of c.in_ok-key.key))) c.loop.seen ≡ false = not_true _ (sym (rw (bytes, c.if-not-branch.false) at c.in_ok-insert.ensures.added)) in
+    let f = fresh_ok c.args.total (value_at c.args.total (shape_of c.args.key_type.now)) (spelling (shape_of c.args.key_type.now)) c.loop.seen c.loop.rest.now (value_of c.in_ok-key.key, c.in_ok-key.after.now) c.in_ok-key.ensures.read in
     let q = err_from_is_err_and c.from_residual-in_err-value.result c.from_residual-in_err-value.ensures.1 in
-    rw (q.1, q.2) (pairs_value_fail c.args.total (value_at c.args.total (shape_of c.args.key_type.now)) (spelling (shape_of c.args.key_type.now)) (value_at c.args.total (shape_of c.args.value_type.now)) c.loop.seen (map entry_of c.loop.found.items) c.args.count c.loop.counter c.loop.rest.now (pairs c.args.total (value_at c.args.total (shape_of c.args.key_type.now)) (spelling (shape_of c.args.key_type.now)) (value_at c.args.total (shape_of c.args.value_type.now)) [] c.args.count c.args.bytes.now) c.loop.invariant (value_of c.in_ok-key.key) c.in_ok-key.after.now c.in_err-value.field-0.0 c.loop-test.true c.in_ok-key.ensures new c.in_err-value.ensures)
+    rw (q.1, q.2) (pairs_value_fail c.args.total (value_at c.args.total (shape_of c.args.key_type.now)) (spelling (shape_of c.args.key_type.now)) (value_at c.args.total (shape_of c.args.value_type.now)) c.loop.seen (map entry_of c.loop.found.items) c.args.count c.loop.counter c.loop.rest.now (pairs c.args.total (value_at c.args.total (shape_of c.args.key_type.now)) (spelling (shape_of c.args.key_type.now)) (value_at c.args.total (shape_of c.args.value_type.now)) [] c.args.count c.args.bytes.now) c.loop.invariant (value_of c.in_ok-key.key) c.in_ok-key.after.now c.in_err-value.field-0.0 c.loop-test.true f.0 f.1 c.in_err-value.ensures)
 
 pub pairs-loop-preserved : goal.pairs-loop-preserved
 pairs-loop-preserved t c =
-    let p = value_takes c.args.total (shape_of c.args.key_type.now) c.loop.rest.now (value_of c.in_ok-key.key, c.in_ok-key.after.now) c.loop.invariant.fits c.in_ok-key.ensures in
-    let bytes : c.taken.result.now ≡ spelling (shape_of c.args.key_type.now) (value_of c.in_ok-key.key) = c.taken.ensures ∙ taken_is c.loop.rest.now (spelling (shape_of c.args.key_type.now) (value_of c.in_ok-key.key)) c.in_ok-key.after.now p.0.parts in
-    let new : list_any (bytes_eq (spelling (shape_of c.args.key_type.now) (value_of c.in_ok-key.key))) c.loop.seen ≡ false = not_true _ (sym (rw (bytes, c.if-not-branch.false) at c.in_ok-insert.ensures.added)) in
+    let f = fresh_ok c.args.total (value_at c.args.total (shape_of c.args.key_type.now)) (spelling (shape_of c.args.key_type.now)) c.loop.seen c.loop.rest.now (value_of c.in_ok-key.key, c.in_ok-key.after.now) c.in_ok-key.ensures.read in
+    let p = value_takes c.args.total (shape_of c.args.key_type.now) c.loop.rest.now (value_of c.in_ok-key.key, c.in_ok-key.after.now) c.loop.invariant.fits f.0 in
     let q = value_takes c.args.total (shape_of c.args.value_type.now) c.in_ok-key.after.now (value_of c.in_ok-value.value, c.in_ok-value.after.now) p.0.left c.in_ok-value.ensures in
     let pushed : map entry_of c.push.new.self.items ≡ map entry_of c.loop.found.items ++ entry_of c.pair.result ∷ [] = rw c.in_ok-push.ensures.items (map_push entry_of c.loop.found.items c.pair.result) in
-    rw (pushed, c.pair.ensures) (pairs_go_on c.args.total (value_at c.args.total (shape_of c.args.key_type.now)) (spelling (shape_of c.args.key_type.now)) (value_at c.args.total (shape_of c.args.value_type.now)) c.loop.seen (map entry_of c.loop.found.items) c.args.count c.loop.counter c.loop.rest.now (pairs c.args.total (value_at c.args.total (shape_of c.args.key_type.now)) (spelling (shape_of c.args.key_type.now)) (value_at c.args.total (shape_of c.args.value_type.now)) [] c.args.count c.args.bytes.now) c.loop.invariant (value_of c.in_ok-key.key) c.in_ok-key.after.now (value_of c.in_ok-value.value) c.in_ok-value.after.now c.insert.new.self c.loop-test.true q.0.left c.in_ok-key.ensures new c.in_ok-value.ensures (rw bytes at c.in_ok-insert.ensures.has))
+    rw (pushed, c.pair.ensures) (pairs_go_on c.args.total (value_at c.args.total (shape_of c.args.key_type.now)) (spelling (shape_of c.args.key_type.now)) (value_at c.args.total (shape_of c.args.value_type.now)) c.loop.seen (map entry_of c.loop.found.items) c.args.count c.loop.counter c.loop.rest.now (pairs c.args.total (value_at c.args.total (shape_of c.args.key_type.now)) (spelling (shape_of c.args.key_type.now)) (value_at c.args.total (shape_of c.args.value_type.now)) [] c.args.count c.args.bytes.now) c.loop.invariant (value_of c.in_ok-key.key) c.in_ok-key.after.now (value_of c.in_ok-value.value) c.in_ok-value.after.now c.fresh_at.new.seen c.loop-test.true q.0.left f.0 f.1 c.in_ok-value.ensures c.in_ok-key.ensures.has)
 
 pub pairs-returns : goal.pairs-returns
 pairs-returns t c =

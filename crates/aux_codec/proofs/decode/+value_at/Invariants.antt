@@ -7,34 +7,37 @@ use Rattle.aux_codec.proofs.Loops.{with_front, IsLeft, AreLeft}
 use Rattle.aux_codec.proofs.decode.+value_at.Given as goal
 
 abbrev pub decreases-value_at : goal.decreases-value_at
-decreases-value_at l = 3 * nesting (shape_of l.of.now)
+decreases-value_at l = 4 * nesting (shape_of l.of.now)
 
 abbrev pub decreases-sequence_at : goal.decreases-sequence_at
-decreases-sequence_at l = 3 * nesting (shape_of l.inner.now) + 2
+decreases-sequence_at l = 4 * nesting (shape_of l.inner.now) + 3
 
 abbrev pub decreases-set_at : goal.decreases-set_at
-decreases-set_at l = 3 * nesting (shape_of l.inner.now) + 2
+decreases-set_at l = 4 * nesting (shape_of l.inner.now) + 3
 
 abbrev pub decreases-mapping_at : goal.decreases-mapping_at
-decreases-mapping_at l = 3 * max (nesting (shape_of l.key.now)) (nesting (shape_of l.value.now)) + 2
+decreases-mapping_at l = 4 * max (nesting (shape_of l.key.now)) (nesting (shape_of l.value.now)) + 3
 
 abbrev pub decreases-tuple_at : goal.decreases-tuple_at
-decreases-tuple_at l = 3 * nesting_of_parts (shapes (map shape_of l.types.now)) + 2
+decreases-tuple_at l = 4 * nesting_of_parts (shapes (map shape_of l.types.now)) + 3
 
 abbrev pub decreases-variant_at : goal.decreases-variant_at
-decreases-variant_at l = 3 * nesting_of_parts (shapes (map shape_of l.types.now)) + 2
+decreases-variant_at l = 4 * nesting_of_parts (shapes (map shape_of l.types.now)) + 3
+
+abbrev pub decreases-fresh_at : goal.decreases-fresh_at
+decreases-fresh_at l = 4 * nesting (shape_of l.of.now) + 1
 
 abbrev pub decreases-members : goal.decreases-members
-decreases-members l = 3 * nesting (shape_of l.of.now) + 1
+decreases-members l = 4 * nesting (shape_of l.of.now) + 2
 
 abbrev pub decreases-distinct : goal.decreases-distinct
-decreases-distinct l = 3 * nesting (shape_of l.of.now) + 1
+decreases-distinct l = 4 * nesting (shape_of l.of.now) + 2
 
 abbrev pub decreases-pairs : goal.decreases-pairs
-decreases-pairs l = 3 * max (nesting (shape_of l.key_type.now)) (nesting (shape_of l.value_type.now)) + 1
+decreases-pairs l = 4 * max (nesting (shape_of l.key_type.now)) (nesting (shape_of l.value_type.now)) + 2
 
 abbrev pub decreases-parts_at : goal.decreases-parts_at
-decreases-parts_at l = 3 * nesting_of_parts (shapes (map shape_of l.types.now)) + 1
+decreases-parts_at l = 4 * nesting_of_parts (shapes (map shape_of l.types.now)) + 2
 
 -- with the members that are left, those so far are all
 abbrev pub invariant-members-loop : goal.invariant-members-loop

@@ -2,7 +2,7 @@ use Rattle.std.proofs.Common.{◌≡◌, ℕ, ◌+◌}
 use Rattle.a64_inst.specs.Runs.{onward}
 use Rattle.num_run.specs.declared.report.RunEnd.TheVariants.{Running}
 use Rattle.num_run.specs.Decoded.{IsCache}
-use Rattle.num_run.specs.Mapped.{IsMemory}
+use Rattle.paged_memory.specs.Mapped.{IsMemory}
 use Rattle.num_run.specs.Opened.{so_far}
 use Rattle.num_run.specs.Run.{step}
 use Rattle.num_run.specs.Runner.{machine}

@@ -15,27 +15,27 @@ pub returns-in-1 : goal.returns-in-1
 unfolding step piece_faults block_rows block_draft
 returns-in-1 c = rw c.in-1.is (rw c.take_unsigned.ensures refl, silent c.args.part.now.place (carried c.args.part.now.carried))
 
-pub returns-in_ok-take_code-in-2 : goal.returns-in_ok-take_code-in-2
+pub returns-in_ok-take_member-in-2 : goal.returns-in_ok-take_member-in-2
 unfolding step piece_faults block_rows block_draft
-returns-in_ok-take_code-in-2 c =
-    rw c.in-2.is (code_steps c.args.self.now c.args.part.now.place (carried c.args.part.now.carried) _ c.in_ok-take_code-in-2.ensures.0, rw c.in_ok-take_code-in-2.ensures.1 refl)
+returns-in_ok-take_member-in-2 c =
+    rw c.in-2.is (code_steps c.args.self.now c.args.part.now.place (carried c.args.part.now.carried) _ c.in_ok-take_member-in-2.ensures.0, rw c.in_ok-take_member-in-2.ensures.1 refl)
 
-pub returns-in_err-take_code-in-2 : goal.returns-in_err-take_code-in-2
+pub returns-in_err-take_member-in-2 : goal.returns-in_err-take_member-in-2
 unfolding step piece_faults block_rows block_draft
-returns-in_err-take_code-in-2 c =
+returns-in_err-take_member-in-2 c =
     let p = err_from_is_err_and c.from_residual.result c.from_residual.ensures.1 in
-    rw (p.1, p.2, c.in-2.is, append-nil) c.in_err-take_code-in-2.ensures
+    rw (p.1, p.2, c.in-2.is, append-nil) c.in_err-take_member-in-2.ensures
 
-pub returns-in_ok-take_data-in-3 : goal.returns-in_ok-take_data-in-3
+pub returns-in_ok-take_member-in-3 : goal.returns-in_ok-take_member-in-3
 unfolding step piece_faults block_rows block_draft
-returns-in_ok-take_data-in-3 c =
-    rw c.in-3.is (data_steps c.args.self.now c.args.part.now.place (carried c.args.part.now.carried) _ c.in_ok-take_data-in-3.ensures.0, rw c.in_ok-take_data-in-3.ensures.1 refl)
+returns-in_ok-take_member-in-3 c =
+    rw c.in-3.is (data_steps c.args.self.now c.args.part.now.place (carried c.args.part.now.carried) _ c.in_ok-take_member-in-3.ensures.0, rw c.in_ok-take_member-in-3.ensures.1 refl)
 
-pub returns-in_err-take_data-in-3 : goal.returns-in_err-take_data-in-3
+pub returns-in_err-take_member-in-3 : goal.returns-in_err-take_member-in-3
 unfolding step piece_faults block_rows block_draft
-returns-in_err-take_data-in-3 c =
-    let p = err_from_is_err_and c.from_residual-in_err-take_data-in-3.result c.from_residual-in_err-take_data-in-3.ensures.1 in
-    rw (p.1, p.2, c.in-3.is, append-nil) c.in_err-take_data-in-3.ensures
+returns-in_err-take_member-in-3 c =
+    let p = err_from_is_err_and c.from_residual-in_err-take_member-in-3.result c.from_residual-in_err-take_member-in-3.ensures.1 in
+    rw (p.1, p.2, c.in-3.is, append-nil) c.in_err-take_member-in-3.ensures
 
 pub returns-in_default : goal.returns-in_default
 unfolding step piece_faults block_rows block_draft

@@ -1,0 +1,5 @@
+pub mod ModuleTables
+pub mod Faults
+pub mod Report
+pub mod Spans
+pub mod AtGraph
