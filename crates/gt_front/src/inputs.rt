@@ -13,6 +13,7 @@ use std::alloc::Global;
 /// The bytes of the inputs, each read whole.
 #[derive(Debug, Drop)]
 pub struct Contents {
+    /// That of the role `In`.
     main: Option<Bytes>,
     patch: Option<Bytes>,
     layout: Option<Bytes>,
