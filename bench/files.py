@@ -1,4 +1,6 @@
-"""Writes a GTIRB file of about a size: of many small nodes, or of few with large contents."""
+"""Writes a GTIRB file: of about a size, with many small nodes or few large contents; or a program with tables of so
+many entries each, whose blocks stand in order, in descending order, or all at one offset."""
+import struct
 import sys
 
 
@@ -52,8 +54,51 @@ def large_contents(size):
     return run(1, identifier(6, 0)) + module + number(6, 4)
 
 
+BLOCKS = 100_000
+
+
+def table(name, type_name, entries):
+    return run(17, run(1, name), run(2, run(1, type_name), run(2, struct.pack("<Q", len(entries)), b"".join(entries))))
+
+
+def program(entries, blocks):
+    """100,000 blocks, each with a symbol and, where it isn't empty, a branch to the next; two tables of so many entries."""
+    text = identifier(4, 0)
+    places = [text + struct.pack("<Q", index % (4 * BLOCKS)) for index in range(entries)]
+    # Offsets repeat past the interval's size: keys must differ, so later ones name other identifiers.
+    places = [place if index < 4 * BLOCKS else identifier(7, index) + place[16:] for index, place in enumerate(places)]
+    sizes = table(b"symbolicExpressionSizes", b"mapping<Offset,uint64_t>", [place + struct.pack("<Q", 8) for place in places])
+    comments = table(b"comments", b"mapping<Offset,string>", [place + struct.pack("<Q", 4) + b"seen" for place in places])
+    symbols = [run(9, run(1, identifier(2, index)), run(3, b"b%d" % index), run(5, identifier(1, index))) for index in range(BLOCKS)]
+    expressions = [run(3, number(1, 4 * index), run(2, run(2, run(2, identifier(2, (index + 1) % BLOCKS))))) for index in range(BLOCKS)]
+    contents = struct.pack("<I", 0x14000000) * BLOCKS
+    interval = run(5, run(1, text), *blocks, *expressions, number(6, 4 * BLOCKS), run(7, contents))
+    section = run(12, run(1, identifier(5, 0)), run(2, b".text"), interval, number(6, 4))
+    module = run(3, run(1, identifier(3, 0)), number(6, 7), *symbols, section, comments, sizes, run(18, identifier(1, 0)), number(19, 2))
+    return run(1, identifier(6, 0)) + module + number(6, 4)
+
+
+def block(index, offset, size):
+    return run(2, number(1, offset), run(2, run(1, identifier(1, index)), number(3, size)))
+
+
+def in_order(entries):
+    return program(entries, [block(index, 4 * index, 4) for index in range(BLOCKS)])
+
+
+def descending(entries):
+    return program(entries, [block(index, 4 * index, 4) for index in reversed(range(BLOCKS))])
+
+
+def at_one_offset(entries):
+    """All blocks but the first are empty and stand at its start."""
+    return program(entries, [block(0, 0, 4 * BLOCKS)] + [block(index, 0, 0) for index in range(1, BLOCKS)])
+
+
+KINDS = {"nodes": many_nodes, "contents": large_contents, "program": in_order, "descending": descending, "one-offset": at_one_offset}
+
 if __name__ == "__main__":
     kind, size, path = sys.argv[1:]
-    body = {"nodes": many_nodes, "contents": large_contents}[kind](int(size))
+    body = KINDS[kind](int(size))
     with open(path, "wb") as file:
         file.write(b"GTIRB\0\0\4" + body)

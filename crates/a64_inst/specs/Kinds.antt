@@ -1,6 +1,6 @@
 -- The operands of words that an expression can give.
-use Rattle.std.specs.Prelude.{ℕ, Bool, ◌==◌, find, Option, bit_and}
-use Rattle.std.specs.Option.{option_map}
+use Rattle.std.specs.Prelude.{ℕ, Bool, false, ◌==◌, List, find, Option, bit_and}
+use Rattle.std.specs.Option.{option_map, option_map_or}
 use Rattle.a64_inst.specs.declared.kind.TheConstants.{KIND_WORDS, REL26, REL19, REL14, ADR, PAGE, LOW12}
 use Rattle.a64_inst.specs.declared.kind.Kind.{Kind}
 use Rattle.a64_inst.specs.declared.kind.Kind.TheVariants.{Rel26, Rel19, Rel14, Adr, Page, Low12}
@@ -11,9 +11,17 @@ use Rattle.a64_inst.specs.declared.kind.Operand.{Operand}
 abbrev pub is_in : ℕ → KindWords → Bool
 is_in word words = bit_and word words.mask == words.value
 
+-- the first row of a table that a word is in
+abbrev pub words_among : List KindWords → ℕ → Option KindWords
+words_among rows word = find (is_in word) rows
+
 -- the kind of the operand of a word, if it has one
 abbrev pub operand_kind : ℕ → Option Kind
-operand_kind word = option_map (λ (words : KindWords). words.kind) (find (is_in word) KIND_WORDS)
+operand_kind word = option_map (λ (words : KindWords). words.kind) (words_among KIND_WORDS word)
+
+-- the word is a direct branch
+abbrev pub is_branch : ℕ → Bool
+is_branch word = option_map_or (λ (words : KindWords). words.branch) (words_among KIND_WORDS word) false
 
 -- what a kind takes
 abbrev pub operand : Kind → Operand

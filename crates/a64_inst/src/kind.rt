@@ -1,7 +1,7 @@
 //! The operands of words that an expression can give, and the words that have one.
 
 ghost use Rattle.std.specs.Prelude.{◌≡◌};
-ghost use Rattle.a64_inst.specs.Kinds.{operand, operand_kind};
+ghost use Rattle.a64_inst.specs.Kinds.{is_branch, operand, operand_kind, words_among};
 
 /// What an expression gives to a word.
 #[derive(Clone, Copy, Debug, PartialEq, Eq)]
@@ -20,12 +20,14 @@ pub enum Kind {
     Low12(u8),
 }
 
-/// Words that have an operand of one kind: those that have this value in the bits of the mask.
+/// Words that have an operand of one kind, those that have this value in the bits of the mask, and
+/// whether they are direct branches.
 #[derive(Clone, Copy, Debug, PartialEq, Eq)]
 pub struct KindWords {
     pub mask: u32,
     pub value: u32,
     pub kind: Kind,
+    pub branch: bool,
 }
 
 /// The words that have an operand (DDI 0487, C4.1): no word is in two rows.
@@ -35,133 +37,172 @@ pub const KIND_WORDS: [KindWords; 21] = [
         mask: 0x7c00_0000,
         value: 0x1400_0000,
         kind: Kind::Rel26,
+        branch: true,
     },
     // B.cond
     KindWords {
         mask: 0xff00_0010,
         value: 0x5400_0000,
         kind: Kind::Rel19,
+        branch: true,
     },
     // CBZ, CBNZ
     KindWords {
         mask: 0x7e00_0000,
         value: 0x3400_0000,
         kind: Kind::Rel19,
+        branch: true,
     },
     // LDR (literal)
     KindWords {
         mask: 0xbf00_0000,
         value: 0x1800_0000,
         kind: Kind::Rel19,
+        branch: false,
     },
     // LDRSW (literal)
     KindWords {
         mask: 0xff00_0000,
         value: 0x9800_0000,
         kind: Kind::Rel19,
+        branch: false,
     },
     // LDR (literal, SIMD&FP), 32 and 64 bits
     KindWords {
         mask: 0xbf00_0000,
         value: 0x1c00_0000,
         kind: Kind::Rel19,
+        branch: false,
     },
     // LDR (literal, SIMD&FP), 128 bits
     KindWords {
         mask: 0xff00_0000,
         value: 0x9c00_0000,
         kind: Kind::Rel19,
+        branch: false,
     },
     // TBZ, TBNZ
     KindWords {
         mask: 0x7e00_0000,
         value: 0x3600_0000,
         kind: Kind::Rel14,
+        branch: true,
     },
     // ADR
     KindWords {
         mask: 0x9f00_0000,
         value: 0x1000_0000,
         kind: Kind::Adr,
+        branch: false,
     },
     // ADRP
     KindWords {
         mask: 0x9f00_0000,
         value: 0x9000_0000,
         kind: Kind::Page,
+        branch: false,
     },
     // ADD (immediate), 64 bits, not shifted
     KindWords {
         mask: 0xffc0_0000,
         value: 0x9100_0000,
         kind: Kind::Low12(1),
+        branch: false,
     },
     // STRB, LDRB, LDRSB
     KindWords {
         mask: 0xff00_0000,
         value: 0x3900_0000,
         kind: Kind::Low12(1),
+        branch: false,
     },
     // STRH, LDRH, LDRSH
     KindWords {
         mask: 0xff00_0000,
         value: 0x7900_0000,
         kind: Kind::Low12(2),
+        branch: false,
     },
     // STR, LDR of 32 bits
     KindWords {
         mask: 0xff80_0000,
         value: 0xb900_0000,
         kind: Kind::Low12(4),
+        branch: false,
     },
     // LDRSW
     KindWords {
         mask: 0xffc0_0000,
         value: 0xb980_0000,
         kind: Kind::Low12(4),
+        branch: false,
     },
     // STR, LDR of 64 bits
     KindWords {
         mask: 0xff80_0000,
         value: 0xf900_0000,
         kind: Kind::Low12(8),
+        branch: false,
     },
     // STR, LDR (SIMD&FP) of 8, 16, 32, 64 and 128 bits
     KindWords {
         mask: 0xff80_0000,
         value: 0x3d00_0000,
         kind: Kind::Low12(1),
+        branch: false,
     },
     KindWords {
         mask: 0xff80_0000,
         value: 0x7d00_0000,
         kind: Kind::Low12(2),
+        branch: false,
     },
     KindWords {
         mask: 0xff80_0000,
         value: 0xbd00_0000,
         kind: Kind::Low12(4),
+        branch: false,
     },
     KindWords {
         mask: 0xff80_0000,
         value: 0xfd00_0000,
         kind: Kind::Low12(8),
+        branch: false,
     },
     KindWords {
         mask: 0xff80_0000,
         value: 0x3d80_0000,
         kind: Kind::Low12(16),
+        branch: false,
     },
 ];
+
+fn words_among(rows: &[KindWords], word: u32) -> Option<KindWords>
+    ensures { result ≡ words_among rows.now word }
+{
+    rows.iter()
+        .copied()
+        .find(|row| word & row.mask == row.value)
+}
 
 /// The kind of the operand of a word that an expression can give, if it has one.
 pub fn operand_kind(word: u32) -> Option<Kind>
     ensures { result ≡ operand_kind word }
 {
-    KIND_WORDS
-        .iter()
-        .find(|row| word & row.mask == row.value)
-        .map(|row| row.kind)
+    match words_among(&KIND_WORDS, word) {
+        Some(row) => Some(row.kind),
+        None => None,
+    }
+}
+
+/// Whether the word is B, BL, B.cond, CBZ, CBNZ, TBZ or TBNZ.
+pub fn is_branch(word: u32) -> bool
+    ensures { result ≡ is_branch word }
+{
+    match words_among(&KIND_WORDS, word) {
+        Some(row) => row.branch,
+        None => false,
+    }
 }
 
 /// Some bits of a word: how many, and how many stand below them.

@@ -15,7 +15,7 @@ mod words;
 pub use filling::{FitFault, fit};
 pub use flags::Flags;
 pub use inst::Inst;
-pub use kind::{Bits, KIND_WORDS, Kind, KindWords, Operand, operand_kind};
+pub use kind::{Bits, KIND_WORDS, Kind, KindWords, Operand, is_branch, operand_kind};
 pub use operations::{Binary, Op, Sum, Unary, Width};
 pub use reserved::element_size;
 pub use trap::Trap;

@@ -6,9 +6,9 @@ use Rattle.gt_model.specs.declared.ir.Ir.{Ir}
 use Rattle.gt_read.specs.File.{file, format_fault}
 use Rattle.gt_read.specs.declared.fault.FormatFault.{FormatFault}
 use Rattle.gt_write.specs.Canonical.{canonical}
-use Rattle.link_image.specs.declared.image.Image.{Image as AnImage}
-use Rattle.link_image.specs.Reading.{image_fault}
-use Rattle.link_image.specs.Valid.{AreBytes, image_bytes}
+use Rattle.bare_image.specs.declared.image.Image.{Image as AnImage}
+use Rattle.bare_image.specs.Reading.{image_fault}
+use Rattle.bare_image.specs.Valid.{AreBytes, image_bytes}
 use Rattle.num_run.specs.Run.{num_run}
 use Rattle.gt_front.specs.declared.answer.Role.{Role}
 use Rattle.gt_front.specs.declared.answer.Role.TheVariants.{In, Input}

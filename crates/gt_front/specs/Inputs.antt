@@ -3,7 +3,7 @@ use Rattle.std.specs.Prelude.{◌≡◌, ◌<◌, ◌≤◌, ℕ, ◌^◌, List,
 use Rattle.std.specs.List.{AllByRecursion, flat_map}
 use Rattle.std.specs.Option.{option_and_then}
 use Rattle.gr_base.specs.Desk.{Files}
-use Rattle.link_image.specs.Valid.{AreBytes}
+use Rattle.bare_image.specs.Valid.{AreBytes}
 use Rattle.gt_front.specs.declared.answer.Role.{Role}
 use Rattle.gt_front.specs.declared.answer.TheConstants.{ROLES}
 use Rattle.gt_front.specs.Picked.{Picked}

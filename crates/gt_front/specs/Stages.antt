@@ -5,10 +5,10 @@ use Rattle.gr_base.specs.declared.end.End.TheVariants as ends
 use Rattle.gt_model.specs.declared.ir.Ir.{Ir}
 use Rattle.gt_read.specs.declared.fault.FormatFault.{FormatFault}
 use Rattle.gt_read.specs.File.{file, format_fault}
-use Rattle.link_image.specs.declared.image.Image.{Image as AnImage}
-use Rattle.link_image.specs.declared.fault.ImageFault.{ImageFault}
-use Rattle.link_image.specs.Reading.{image_fault}
-use Rattle.link_image.specs.Valid.{image_bytes}
+use Rattle.bare_image.specs.declared.image.Image.{Image as AnImage}
+use Rattle.bare_image.specs.declared.fault.ImageFault.{ImageFault}
+use Rattle.bare_image.specs.Reading.{image_fault}
+use Rattle.bare_image.specs.Valid.{image_bytes}
 use Rattle.gt_front.specs.declared.verdict.Refusal.{Refusal}
 use Rattle.gt_front.specs.declared.verdict.Refusal.TheVariants.{Format, Image}
 

@@ -3,9 +3,9 @@ ghost use Rattle.gt_front.specs.Answer.{status_of, answer_of, unread_answer};
 
 use crate::inputs::Unread;
 use crate::verdict::Refusal;
+use bare_image::ImageFault;
 use gr_base::{End, ReadEnd, Text};
 use gt_read::FormatFault;
-use link_image::ImageFault;
 
 /// What an input file is to a job, in the order in which they are read.
 #[derive(Clone, Copy, Debug, PartialEq, Eq)]

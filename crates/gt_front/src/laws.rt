@@ -10,8 +10,8 @@ ghost use Rattle.gt_front.specs.declared.answer.Role.{Role};
 ghost use Rattle.gt_front.specs.declared.table.WordName.TheVariants as WordName;
 ghost use Rattle.gt_front.specs.Words.{Usage, WordsOk};
 
+use bare_image::laws::{image_or_fault, one_spelling};
 use gt_read::laws::{a_file_has_no_fault, no_fault_is_a_file, one_meaning};
-use link_image::laws::{image_or_fault, one_spelling};
 
 /// Words are those of a job, or exactly one index is at fault.
 pub fn words_or_usage()

@@ -1,5 +1,5 @@
 ghost use Rattle.std.specs.Prelude.{◌≡◌, ◌≤◌, IfOk};
-ghost use Rattle.link_image.specs.Valid.{image_ok};
+ghost use Rattle.bare_image.specs.Valid.{image_ok};
 ghost use Rattle.num_run.specs.Run.{num_run};
 ghost use Rattle.gt_front.specs.Picked.{InBounds};
 ghost use Rattle.gt_front.specs.Reads.{contents_view};
@@ -12,8 +12,8 @@ use crate::stages::image_in;
 use crate::state::state_note;
 use crate::verdict::{Finished, Refusal};
 use crate::words::Settings;
+use bare_image::Image;
 use gr_base::{End, Text};
-use link_image::Image;
 use num_run::run_image;
 use std::alloc::{AllocError, Global};
 

@@ -1,15 +1,15 @@
 ghost use Rattle.std.specs.Prelude.{◌≡◌, ◌<◌, IfOk};
 ghost use Rattle.gt_model.specs.Ordered.{ordered};
 ghost use Rattle.gt_front.specs.Stages.{Answers, meant, imaged};
-ghost use Rattle.link_image.specs.Valid.{image_ok};
+ghost use Rattle.bare_image.specs.Valid.{image_ok};
 
 use crate::verdict::Refusal;
+use bare_image::laws::image_or_fault;
+use bare_image::{Image, read_image};
 use gr_base::End;
 use gt_model::Ir;
 use gt_read::laws::a_file_has_no_fault;
 use gt_read::read_file;
-use link_image::laws::image_or_fault;
-use link_image::{Image, read_image};
 use std::alloc::Global;
 
 /// The IR that the bytes of a file mean.

@@ -1,6 +1,6 @@
+use bare_image::ImageFault;
 use gr_base::{Bytes, Text};
 use gt_read::FormatFault;
-use link_image::ImageFault;
 
 /// Why a job can't do what it is asked: something is wrong with the bytes that it was given.
 #[derive(Clone, Copy, Debug, Drop)]

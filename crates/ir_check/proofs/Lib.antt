@@ -1,3 +1,17 @@
 pub mod First
 pub mod Live
 pub mod Sorting
+pub mod Keys
+pub mod FirstLists
+pub mod Bridge
+pub mod FoundBlocks
+pub mod Homes
+pub mod Sharing
+pub mod AlongExprs
+pub mod Whole
+pub mod Passing
+pub mod Stopping
+pub mod AlongInterval
+pub mod NamedAims
+pub mod Totals
+pub mod Stages

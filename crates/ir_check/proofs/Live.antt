@@ -1,14 +1,18 @@
 -- The children of a node that is there are there.
-use Rattle.std.proofs.Common.{◌≡◌, ℕ, ◌<◌, List, [], ◌++◌, map, length, get_or, sym, subst, ◌∙◌}
+use Rattle.std.proofs.Common.{◌≡◌, ℕ, ◌<◌, true, ap, List, [], ◌++◌, map, length, get_or, subst}
 use Rattle.std.specs.Prelude.{All, Contains}
 use Rattle.std.proofs.lemmas.List.{get_or-map, length-map}
 use Rattle.std.proofs.lemmas.List.Elements.{All-same, All-append}
-use Rattle.node_arena.specs.Arenas.{Arenas, no_module, no_section, no_interval, module_at, section_at, interval_at}
-use Rattle.node_arena.specs.Sound.{Children, sound, section_places, interval_places, block_places}
+use Rattle.node_arena.specs.Arenas.{Arenas, no_module, no_section, no_interval, module_at, section_at, interval_at, block_at}
+use Rattle.node_arena.specs.Sound.{Children, sound}
 use Rattle.node_arena.specs.declared.ids.BlockId.{BlockId}
 use Rattle.node_arena.specs.declared.ids.IntervalId.{IntervalId}
 use Rattle.node_arena.specs.declared.ids.ModuleId.{ModuleId}
 use Rattle.node_arena.specs.declared.ids.SectionId.{SectionId}
+use Rattle.node_arena.specs.declared.ids.SymbolId.{SymbolId}
+use Rattle.node_arena.specs.declared.nodes.SymbolNode.{SymbolNode}
+use Rattle.gt_model.specs.declared.intervals.Body.TheVariants as bodies
+use Rattle.gt_model.specs.Linked.{is_bare_body}
 use Rattle.node_arena.specs.declared.nodes.BlockNode.{BlockNode}
 use Rattle.node_arena.specs.declared.nodes.IntervalNode.{IntervalNode}
 use Rattle.node_arena.specs.declared.nodes.ModuleNode.{ModuleNode}
@@ -44,3 +48,14 @@ live_block_at g id ids k s within same inside = All-same (λ (c : BlockId). c.in
 
 pub intervals_more : (g : Arenas) (xs ys zs : List IntervalId) → zs ≡ xs ++ ys → AreIntervals g xs → AreIntervals g ys → AreIntervals g zs
 intervals_more g xs ys zs same left right = All-same (λ (c : IntervalId). c.index < length g.intervals) zs (xs ++ ys) same (All-append (λ (c : IntervalId). c.index < length g.intervals) xs ys left right)
+
+-- the symbols of a module
+pub live_symbols : (g : Arenas) (id : ModuleId) → sound g → id.index < length g.modules → All (λ (c : SymbolId). c.index < length g.symbols) (module_at g id).symbols
+live_symbols g id s within = listed (λ (c : SymbolId). c.index) (λ (n : ModuleNode). n.symbols) (λ (n : SymbolNode). n.module.index) g.modules g.symbols s.tree.symbols id.index no_module within
+
+pub live_symbol_at : (g : Arenas) (id : ModuleId) (ids : List SymbolId) (k : ℕ) → sound g → id.index < length g.modules → ids ≡ (module_at g id).symbols → k < length ids → (get_or ids k (record { index = 0 })).index < length g.symbols
+live_symbol_at g id ids k s within same inside = All-same (λ (c : SymbolId). c.index < length g.symbols) ids (module_at g id).symbols same (live_symbols g id s within) k (record { index = 0 }) inside
+
+-- a block is not bare
+pub not_bare : (g : Arenas) (id : BlockId) → sound g → id.index < length g.blocks → (block_at g id).body ≡ bodies.Bare → ⊥
+not_bare g id s within bare = let solid = s.solid id.index within in let is : is_bare_body (block_at g id).body ≡ true = ap is_bare_body bare in cc

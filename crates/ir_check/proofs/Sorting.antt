@@ -1,9 +1,9 @@
 -- Blocks sorted by their rank, level ones as they were, are in block order.
-use Rattle.std.proofs.Common.{◌≡◌, ℕ, zero, suc, ◌+◌, ◌*◌, ◌<◌, ◌≤◌, Bool, true, false, nat_lt, nat_eq, ◌&&◌, ◌||◌, not, cond, List, [], ◌∷◌, length, get_or, refl, sym, ap, ◌∙◌, arith, inl, inr}
+use Rattle.std.proofs.Common.{◌≡◌, ℕ, suc, ◌+◌, ◌*◌, ◌<◌, ◌≤◌, Bool, true, false, nat_lt, nat_eq, ◌&&◌, ◌||◌, not, cond, List, [], ◌∷◌, length, get_or, refl, sym, ap, ◌∙◌, arith, inl, inr}
 use Rattle.std.specs.Prelude.{filter}
 use Rattle.std.specs.List.Sorted.{ties, IsStableByKey, IsNonDecreasingBy}
 use Rattle.std.specs.Ordering.{nat_cmp, is_lt}
-use Rattle.std.proofs.lemmas.Bool.{cases_Bool, ltb-true, ltb-false, eqb-true, eqb-false, eq-eqb, cond-true, cond-false}
+use Rattle.std.proofs.lemmas.Bool.{cases_Bool, ltb-true, ltb-false, eqb-true, eq-eqb, cond-true, cond-false}
 use Rattle.std.proofs.lemmas.Bool.Decides.{nat_tests}
 use Rattle.gt_model.specs.declared.intervals.Block.{Block}
 use Rattle.sym_expr.specs.Modules.{put_in_order, in_order, is_empty}
@@ -23,12 +23,12 @@ sorted key [] = []
 sorted key (x ∷ xs) = put key x (sorted key xs)
 
 -- no key of the list is below n
-abbrev Above : {X : Type 0} → (X → ℕ) → ℕ → List X → Type 0
+abbrev pub Above : {X : Type 0} → (X → ℕ) → ℕ → List X → Type 0
 Above key n [] = Unit {0}
 Above key n (y ∷ ys) = (n ≤ key y) × Above key n ys
 
 -- keys don't fall
-abbrev Up : {X : Type 0} → (X → ℕ) → List X → Type 0
+abbrev pub Up : {X : Type 0} → (X → ℕ) → List X → Type 0
 Up key [] = Unit {0}
 Up key (x ∷ xs) = Above key (key x) xs × Up key xs
 
@@ -81,7 +81,7 @@ up_put key x (y ∷ ys) up = elim (cases_Bool (nat_lt (key y) (key x))) [
   | inr h ↦ let least : key x ≤ key y = ltb-false (key y) (key x) h in rw h (((least, above_less key (key x) (key y) ys least up.0), up))
 ]
 
-up_sorted : {X : Type 0} (key : X → ℕ) (xs : List X) → Up key (sorted key xs)
+pub up_sorted : {X : Type 0} (key : X → ℕ) (xs : List X) → Up key (sorted key xs)
 up_sorted key [] = tt
 up_sorted key (x ∷ xs) = up_put key x (sorted key xs) (up_sorted key xs)
 

@@ -1,11 +1,10 @@
 -- What is wrong with a module as a program: one definition for each fault, and the first of all (the rules are ours).
-use Rattle.std.specs.Prelude.{◌≡◌, ℕ, ◌^◌, ℤ, pos, Bool, true, false, ◌&&◌, ◌||◌, not, nat_lt, if◌then◌else◌, List, [], ◌∷◌, map, filter, find, Option, Some, None}
+use Rattle.std.specs.Prelude.{ℕ, ◌^◌, ℤ, pos, Bool, true, false, ◌&&◌, ◌||◌, not, nat_lt, if◌then◌else◌, List, [], ◌∷◌, map, filter, find, Option, Some, None}
 use Rattle.std.specs.List.{filter_map, flat_map, list_any}
-use Rattle.std.specs.Option.{option_map, option_map_or, option_or}
+use Rattle.std.specs.Option.{option_map, option_map_or, option_or, option_and_then}
 use Rattle.std.specs.Ordering.{int_eq}
 use Rattle.std.specs.Str.{bytes_eq}
 use Rattle.aux_codec.specs.declared.value.Place.{Place}
-use Rattle.gr_base.specs.declared.aux_fault.AuxFault.{AuxFault}
 use Rattle.gt_model.specs.declared.exprs.Expr.{Expr}
 use Rattle.gt_model.specs.declared.intervals.Block.{Block}
 use Rattle.gt_model.specs.declared.intervals.Interval.{Interval}
@@ -15,13 +14,14 @@ use Rattle.gt_model.specs.declared.tables.Aux.{Aux}
 use Rattle.ir_check.specs.declared.profile.Plain.{Plain}
 use Rattle.ir_check.specs.declared.profile.Plain.TheVariants as plain
 use Rattle.ir_check.specs.declared.profile.Profile.{Profile}
-use Rattle.ir_check.specs.ModuleTables.{table_fault, table_places, tables_of}
+use Rattle.aux_tables.specs.ModuleTables.{table_fault, table_places, tables_of}
 use Rattle.node_arena.specs.declared.fault.CheckFault.{CheckFault}
 use Rattle.node_arena.specs.declared.fault.CheckFault.TheVariants as faults
-use Rattle.sym_expr.specs.Expressions.{ExprFault, BadOperand, BadTarget, expr_fault}
+use Rattle.sym_expr.specs.declared.aim.Aim.{Aim}
+use Rattle.sym_expr.specs.Expressions.{ExprFault, BadOperand, BadTarget, expr_fault, symbol_aim}
 use Rattle.sym_expr.specs.Linkable.{thread_locals, total_size, long_intervals, outside_blocks, overlaps, crooked_blocks, is_entered}
-use Rattle.sym_expr.specs.Modules.{loaded_sections, loaded_intervals, blocks_of, id_of, size_of, is_code, has_id}
-use Rattle.sym_expr.specs.Tables.{Tables}
+use Rattle.sym_expr.specs.Modules.{loaded_sections, loaded_intervals, blocks_of, id_of, size_of, is_code, block_of}
+use Rattle.sym_expr.specs.Tables.{Tables, expr_size}
 
 -- the first element of a list
 abbrev pub first : {A : Type 0} → List A → Option A
@@ -57,15 +57,21 @@ abbrev pub no_entry : Module → Option CheckFault
 no_entry m = if is_entered m then None else Some faults.NoEntry
 
 -- the faults of the tables, which ascend by name
+abbrev pub aux_fault : Aux → Option CheckFault
+aux_fault a = option_map (faults.Aux a.name) (table_fault a)
+
 abbrev pub aux_faults : List Aux → List CheckFault
-aux_faults tables = filter_map (λ (a : Aux). option_map (faults.Aux a.name) (table_fault a)) tables
+aux_faults tables = filter_map aux_fault tables
 
 -- the size of the interval, or of the code block, of an identifier
 abbrev pub interval_size : List Interval → List ℕ → Option ℕ
-interval_size intervals id = option_map (λ (i : Interval). i.size) (find (λ (i : Interval). bytes_eq id i.uuid) intervals)
+interval_size intervals id = option_map (λ (i : Interval). i.size) (find (λ (i : Interval). bytes_eq i.uuid id) intervals)
+
+abbrev pub size_of_code : Block → Option ℕ
+size_of_code b = if is_code b then Some (size_of b) else None
 
 abbrev pub code_size : List Interval → List ℕ → Option ℕ
-code_size intervals id = option_map size_of (find (λ (b : Block). is_code b && has_id id b) (blocks_of intervals))
+code_size intervals id = option_and_then size_of_code (block_of id (blocks_of intervals))
 
 abbrev pub size_named : List Interval → List ℕ → Option ℕ
 size_named intervals id = option_or (interval_size intervals id) (code_size intervals id)
@@ -93,11 +99,11 @@ abbrev pub named_fault : Interval → Expr → ExprFault → CheckFault
 named_fault i e BadOperand = faults.BadOperand i.uuid e.at
 named_fault i e BadTarget = faults.BadTarget i.uuid e.at
 
-abbrev pub fault_of : Plain → Module → Tables → Interval → Expr → Option CheckFault
-fault_of allowed m t i e = option_or (flag_fault allowed i e) (option_map (named_fault i e) (expr_fault m t i e))
+abbrev pub fault_of : Plain → (List ℕ → Aim) → (ℕ → ℕ) → Interval → Expr → Option CheckFault
+fault_of allowed aim size i e = option_or (flag_fault allowed i e) (option_map (named_fault i e) (expr_fault aim size i e))
 
 abbrev pub faults_in : Plain → Module → Tables → Interval → List CheckFault
-faults_in allowed m t i = filter_map (fault_of allowed m t i) i.exprs
+faults_in allowed m t i = filter_map (fault_of allowed (symbol_aim m) (expr_size t i.uuid) i) i.exprs
 
 -- expression by expression, in order
 abbrev pub faults_of_exprs : Plain → Module → Tables → List CheckFault

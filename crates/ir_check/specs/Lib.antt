@@ -1,5 +1,11 @@
-pub mod ModuleTables
 pub mod Faults
 pub mod Report
 pub mod Spans
 pub mod AtGraph
+pub mod Keyed
+pub mod Sites
+pub mod Outcomes
+pub mod Part
+pub mod Along
+pub mod TablesRead
+pub mod PartFaults

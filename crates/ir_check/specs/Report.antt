@@ -1,5 +1,5 @@
 -- What a check answers: the first fault, or how much there is of everything.
-use Rattle.std.specs.Prelude.{ℕ, List, length, sum_by, count_by, is_none, Option, Some, None, Result, Ok, Err}
+use Rattle.std.specs.Prelude.{length, sum_by, count_by, is_none, Option, Some, None, Result, Ok, Err}
 use Rattle.std.specs.Option.{option_map_or}
 use Rattle.gt_model.specs.declared.edges.Cfg.{Cfg}
 use Rattle.gt_model.specs.declared.intervals.Interval.{Interval}
@@ -9,7 +9,7 @@ use Rattle.gt_model.specs.declared.tables.Aux.{Aux}
 use Rattle.ir_check.specs.declared.profile.Profile.{Profile}
 use Rattle.ir_check.specs.declared.report.CheckReport.{CheckReport}
 use Rattle.ir_check.specs.Faults.{check_fault}
-use Rattle.ir_check.specs.ModuleTables.{shape_of_table}
+use Rattle.aux_tables.specs.ModuleTables.{shape_of_table}
 use Rattle.node_arena.specs.declared.fault.CheckFault.{CheckFault}
 use Rattle.sym_expr.specs.Modules.{intervals_of, blocks_of}
 

@@ -1,5 +1,5 @@
 -- Loaded intervals as the checks go over them. What a check is stands in the other files.
-use Rattle.std.specs.Prelude.{◌≡◌, ℕ, ◌+◌, ◌*◌, ◌<◌, Bool, nat_lt, if◌then◌else◌, List, [], ◌∷◌, length, drop, find, Option, Some, None, All}
+use Rattle.std.specs.Prelude.{ℕ, ◌+◌, ◌*◌, ◌<◌, Bool, nat_lt, if◌then◌else◌, List, [], ◌∷◌, length, drop, find, Option, Some, None, All}
 use Rattle.std.specs.List.{zip}
 use Rattle.std.specs.Option.{option_or}
 use Rattle.gt_model.specs.declared.intervals.Block.{Block}

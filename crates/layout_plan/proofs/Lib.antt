@@ -5,4 +5,12 @@ pub mod Pairs
 pub mod Apart
 pub mod Accepting
 pub mod Least
+pub mod Alignments
 pub mod Defaults
+pub mod Shaping
+pub mod Lines
+pub mod Sayings
+pub mod ReadingSteps
+pub mod PlainWords
+pub mod Printed
+pub mod ReadLaws

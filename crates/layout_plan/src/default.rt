@@ -2,6 +2,7 @@ ghost use Rattle.std.specs.Prelude.{◌≡◌, ◌<◌, ◌≤◌, ◌+◌, ◌*
 ghost use Rattle.sym_expr.specs.Shapes.{IsShape, IsShapeSpot};
 ghost use Rattle.sym_expr.specs.Layouts.{default_of, least_from, next_place, IsStackSize};
 
+use crate::placing::least_from;
 use gr_base::Seq;
 use std::alloc::{AllocError, Global};
 use sym_expr::{Layout, PlaceAt, Shape, ShapeSpot};
@@ -14,15 +15,6 @@ const GAP: u64 = 4096;
 
 /// The bytes of the stack.
 const STACK: u64 = 65536;
-
-fn least_from(n: u64, m: u64, r: u64) -> u64
-    requires small { n + 2 * m < 2 ^ 64 }
-    requires remainder { r < m }
-    ensures least { result ≡ least_from n m r }
-    ensures near { result < n + m }
-{
-    n + (r + (m - n % m)) % m
-}
 
 fn next_place(cursor: u64, spot: &ShapeSpot) -> u64
     requires cursor { cursor < 2 ^ 63 }

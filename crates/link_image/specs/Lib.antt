@@ -1,3 +1,4 @@
-pub mod Spelling
-pub mod Valid
-pub mod Reading
+pub mod Answers
+pub mod Bytes
+pub mod Counts
+pub mod Ready

@@ -1,15 +1,19 @@
-//! Bare images: the segments of a linked program with its entry and its stack, and their bytes.
+//! The linker: the image of a program under a layout.
 #![tactic(auto)]
 
-mod fault;
-mod fields;
-mod image;
+mod blocks;
+mod code;
+mod faults;
+mod fillings;
+mod index;
 pub mod laws;
-mod reading;
-mod rules;
-mod writing;
+mod link;
+mod linker;
+mod pieces;
+mod segments;
+mod values;
+mod words;
 
-pub use fault::ImageFault;
-pub use image::{Image, Segment};
-pub use reading::read_image;
-pub use writing::write_image;
+pub use bare_image::{Image, ImageFault, Segment, read_image, write_image};
+pub use link::link_program;
+pub use sym_expr::{Layout, LinkFault};

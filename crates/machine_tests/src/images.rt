@@ -1,7 +1,7 @@
 //! Images and their bytes.
 
+use bare_image::{Image, ImageFault, read_image, write_image};
 use gr_base::End;
-use link_image::{Image, ImageFault, read_image, write_image};
 use std::test::Fail;
 
 /// A program of three words at 0x1000 that exits with 3, and a stack of 0x1000 bytes at 0x10000.

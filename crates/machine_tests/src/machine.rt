@@ -1,7 +1,7 @@
 //! A machine that goes on where it stands.
 
+use bare_image::read_image;
 use gr_base::Bytes;
-use link_image::read_image;
 use num_run::{Machine, RunEnd, Trap};
 use std::alloc::{AllocError, Global};
 use std::test::Fail;

@@ -1,7 +1,7 @@
 //! Programs that run to their end.
 
+use bare_image::read_image;
 use gr_base::Bytes;
-use link_image::read_image;
 use num_run::{RunEnd, Trap, run_image};
 use std::alloc::{AllocError, Global};
 use std::test::Fail;

@@ -5,3 +5,6 @@ pub mod Stored
 pub mod Placing
 pub mod Refs
 pub mod Checking
+pub mod Linking
+pub mod Changes
+pub mod Parts

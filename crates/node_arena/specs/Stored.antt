@@ -1,5 +1,5 @@
 -- A graph as it is stored: the nodes in vectors, and the index.
-use Rattle.std.specs.Prelude.{ℕ, List}
+use Rattle.std.specs.Prelude.{◌≡◌, ℕ, Some, false, List}
 use Rattle.std.specs.declared.hash.FoldHasher.{FoldHasher}
 use Rattle.std.specs.declared.hash.BuildHasherDefault.{BuildHasherDefault}
 use Rattle.std.specs.Str.{bytes_eq}
@@ -37,3 +37,8 @@ entry_of g r = (ref_id g r, r)
 pub record Holds (a : Arena) (index : Index) : Type 0 where
   pub sound : sound (arenas_of a)
   pub finds : Finds (arenas_of a) (get bytes_eq index)
+
+-- one more identifier is found
+pub record FindsAlso (old new : Index) (id : List ℕ) (r : NodeRef) : Type 0 where
+  pub hit : get bytes_eq new id ≡ Some r
+  pub miss : (other : List ℕ) → bytes_eq id other ≡ false → get bytes_eq new other ≡ get bytes_eq old other

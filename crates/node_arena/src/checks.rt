@@ -1,14 +1,14 @@
-ghost use Rattle.std.specs.Prelude.{◌≡◌, map};
+ghost use Rattle.std.specs.Prelude.{◌≡◌, map, [], ◌∷◌};
 ghost use Rattle.std.specs.List.{flat_map};
 ghost use Rattle.std.specs.Option.{option_to_list};
-ghost use Rattle.gt_model.specs.References.{reference, SymbolOf, symbol_references, symbols_of, expr_references, interval_references, section_references, module_references, references_from};
+ghost use Rattle.gt_model.specs.References.{reference, SymbolOf, Vertex, symbol_references, symbols_of, expr_references, interval_references, section_references, module_references, references_from, edge_references, cfg_references, references};
 ghost use Rattle.node_arena.specs.Checking.{ChecksAll, Linkable, wanted_of};
 
 use crate::arena::Arena;
 use crate::fault::CheckFault;
 use crate::ids::{ModuleId, NodeRef};
 use crate::landing::{Wanted, check_reference};
-use gt_model::{Expr, ExprValue, Interval, Module, Payload, Section, Symbol};
+use gt_model::{Cfg, Edge, Expr, ExprValue, Interval, Ir, Module, Payload, Section, Symbol};
 use indexmap::IndexMap;
 use uuid::Uuid;
 
@@ -133,7 +133,7 @@ fn check_sections(
 }
 
 /// Whether the references of a module are right, or the first one that isn't.
-pub fn check_module(
+fn check_module(
     arena: &Arena,
     index: &Index,
     id: ModuleId,
@@ -148,7 +148,7 @@ pub fn check_module(
 }
 
 /// Whether the references of modules are right, or the first one that isn't.
-pub fn check_modules(arena: &Arena, index: &Index, modules: &[Module]) -> Result<(), CheckFault>
+fn check_modules(arena: &Arena, index: &Index, modules: &[Module]) -> Result<(), CheckFault>
     requires { Linkable arena.now index.now }
     ensures { ChecksAll arena.now index.now (references_from 0 modules.now) result }
 {
@@ -156,4 +156,64 @@ pub fn check_modules(arena: &Arena, index: &Index, modules: &[Module]) -> Result
         check_module(arena, index, ModuleId { index: k }, module)?;
     }
     Ok(())
+}
+
+fn check_edge(arena: &Arena, index: &Index, from: Uuid, edge: &Edge) -> Result<(), CheckFault>
+    requires { Linkable arena.now index.now }
+    ensures { ChecksAll arena.now index.now (edge_references from edge.now) result }
+{
+    check_reference(arena, index, from, Wanted::Vertex, edge.source)?;
+    check_reference(arena, index, from, Wanted::Vertex, edge.target)
+}
+
+fn check_edges(arena: &Arena, index: &Index, from: Uuid, edges: &[Edge]) -> Result<(), CheckFault>
+    requires { Linkable arena.now index.now }
+    ensures { ChecksAll arena.now index.now (flat_map (edge_references from) edges.now) result }
+{
+    for edge in edges {
+        check_edge(arena, index, from, edge)?;
+    }
+    Ok(())
+}
+
+fn check_vertices(
+    arena: &Arena,
+    index: &Index,
+    from: Uuid,
+    vertices: &[Uuid],
+) -> Result<(), CheckFault>
+    requires { Linkable arena.now index.now }
+    ensures { ChecksAll arena.now index.now (flat_map (λ id. reference from Vertex id ∷ []) vertices.now) result }
+{
+    for id in vertices {
+        check_reference(arena, index, from, Wanted::Vertex, *id)?;
+    }
+    Ok(())
+}
+
+fn check_cfg(arena: &Arena, index: &Index, from: Uuid, cfg: &Cfg) -> Result<(), CheckFault>
+    requires { Linkable arena.now index.now }
+    ensures { ChecksAll arena.now index.now (cfg_references from cfg.now) result }
+{
+    check_edges(arena, index, from, cfg.edges.as_slice())?;
+    check_vertices(arena, index, from, cfg.vertices.as_slice())
+}
+
+fn check_flow(arena: &Arena, index: &Index, from: Uuid, cfg: &Option<Cfg>) -> Result<(), CheckFault>
+    requires { Linkable arena.now index.now }
+    ensures { ChecksAll arena.now index.now (flat_map (cfg_references from) (option_to_list cfg.now)) result }
+{
+    match cfg {
+        None => Ok(()),
+        Some(cfg) => check_cfg(arena, index, from, cfg),
+    }
+}
+
+/// Whether the references of an IR are right, or the first one that isn't.
+pub fn check_references(arena: &Arena, index: &Index, ir: &Ir) -> Result<(), CheckFault>
+    requires { Linkable arena.now index.now }
+    ensures { ChecksAll arena.now index.now (references ir.now) result }
+{
+    check_modules(arena, index, ir.modules.as_slice())?;
+    check_flow(arena, index, ir.uuid, &ir.cfg)
 }

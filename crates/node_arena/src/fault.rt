@@ -41,3 +41,10 @@ pub enum CheckFault {
     /// The expression at the offset of the interval has a wrong target.
     BadTarget(Uuid, u64),
 }
+
+/// Why a node isn't added.
+#[derive(Clone, Copy, Debug, PartialEq, Eq)]
+pub enum AddFault {
+    /// A node of the graph holds the identifier.
+    Taken(Uuid),
+}

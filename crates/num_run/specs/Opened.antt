@@ -2,7 +2,7 @@
 use Rattle.std.specs.Prelude.{ℕ, List}
 use Rattle.a64_inst.specs.Domain.{exit, trapped}
 use Rattle.a64_inst.specs.Runs.{Standing, going, over, Run, run}
-use Rattle.link_image.specs.declared.image.Image.{Image}
+use Rattle.bare_image.specs.declared.image.Image.{Image}
 use Rattle.num_run.specs.declared.report.RunEnd.{RunEnd}
 use Rattle.num_run.specs.declared.report.RunEnd.TheVariants.{Running, Exit, Trap}
 use Rattle.num_run.specs.declared.report.RunReport.{RunReport}

@@ -6,7 +6,7 @@ use Rattle.a64_inst.specs.Domain.{exit, trapped, ended, exec}
 use Rattle.a64_inst.specs.Meaning.{ops}
 use Rattle.a64_inst.specs.Runs.{Standing, going, over, halted, Run, run}
 use Rattle.a64_inst.specs.Table.{row}
-use Rattle.link_image.specs.declared.image.Image.{Image}
+use Rattle.bare_image.specs.declared.image.Image.{Image}
 use Rattle.num_run.specs.declared.report.RunEnd.{RunEnd}
 use Rattle.num_run.specs.declared.report.RunEnd.TheVariants as ends
 use Rattle.num_run.specs.declared.report.RunReport.{RunReport}

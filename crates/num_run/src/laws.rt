@@ -6,7 +6,7 @@ ghost use Rattle.a64_inst.specs.declared.trap.Trap.TheVariants.{Fault};
 ghost use Rattle.a64_inst.specs.Domain.{next, ended, trapped, exec};
 ghost use Rattle.a64_inst.specs.Meaning.{ops, pair_size};
 ghost use Rattle.a64_inst.specs.Runs.{run, onward};
-ghost use Rattle.link_image.specs.declared.image.Image.{Image};
+ghost use Rattle.bare_image.specs.declared.image.Image.{Image};
 ghost use Rattle.num_run.specs.Machine.{Machine};
 ghost use Rattle.num_run.specs.Numeric.{numeric, stored};
 ghost use Rattle.num_run.specs.Access.{behind, low_bytes, pair_address};

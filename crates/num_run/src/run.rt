@@ -1,11 +1,11 @@
 ghost use Rattle.std.specs.Prelude.{◌≡◌, ◌≤◌, ℕ, IfOk};
-ghost use Rattle.link_image.specs.Valid.{image_ok};
+ghost use Rattle.bare_image.specs.Valid.{image_ok};
 ghost use Rattle.num_run.specs.Run.{num_run};
 
 use crate::report::RunReport;
 use crate::running::Machine;
+use bare_image::Image;
 use gr_base::Bytes;
-use link_image::Image;
 use std::alloc::{AllocError, Global};
 
 /// Runs an image for so many instructions, or fewer where the run ends before.

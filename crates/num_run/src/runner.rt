@@ -1,5 +1,5 @@
 ghost use Rattle.std.specs.Prelude.{◌≡◌, ◌+◌, ◌%◌, ◌^◌, OnOk, IfOk};
-ghost use Rattle.link_image.specs.Valid.{image_ok};
+ghost use Rattle.bare_image.specs.Valid.{image_ok};
 ghost use Rattle.num_run.specs.Machine.{register, with_register};
 ghost use Rattle.num_run.specs.Numeric.{at_place};
 ghost use Rattle.num_run.specs.Run.{start};
@@ -8,7 +8,7 @@ ghost use Rattle.num_run.specs.Runner.{machine};
 
 use crate::output::Output;
 use a64_inst::Flags;
-use link_image::Image;
+use bare_image::Image;
 use paged_memory::Memory;
 use std::alloc::{AllocError, Global};
 

@@ -4,7 +4,7 @@ use crate::cache::Cache;
 use crate::report::RunEnd;
 use crate::runner::Runner;
 use crate::steps::go_on;
-use link_image::Image;
+use bare_image::Image;
 use std::alloc::{AllocError, Global};
 use std::marker::Model;
 
@@ -36,7 +36,7 @@ impl<'a> Model for Machine<'a> {
 
 impl<'a> Machine<'a> {
     ghost use Rattle.std.specs.Prelude.{◌≡◌, ◌≤◌, ◌+◌, IfOk};
-    ghost use Rattle.link_image.specs.Valid.{image_ok};
+    ghost use Rattle.bare_image.specs.Valid.{image_ok};
     ghost use Rattle.num_run.specs.Opened.{report, held};
 
     /// The machine before the first instruction of an image.

@@ -5,8 +5,8 @@ use Rattle.std.proofs.Math.Path.{fun_ext}
 use Rattle.std.proofs.lemmas.Bool.{le-leb, lt-leb, lt-ltb, le-ltb, cases_lt}
 use Rattle.std.proofs.lemmas.List.{take-take, drop-take, take-append-drop, get_or_append_left, get_or-append_right}
 use Rattle.std.proofs.lemmas.List.Elements.{All-head, All-tail}
-use Rattle.link_image.specs.declared.image.Segment.{Segment}
-use Rattle.link_image.specs.Valid as valid
+use Rattle.bare_image.specs.declared.image.Segment.{Segment}
+use Rattle.bare_image.specs.Valid as valid
 use Rattle.paged_memory.specs.declared.part.Part.{Part}
 use Rattle.paged_memory.specs.Mapping.{Mapping, byte_in, with_bytes}
 use Rattle.paged_memory.specs.Mapped.{place_of, mapped_by, end_of, IsIndex, beside}

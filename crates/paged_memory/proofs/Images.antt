@@ -6,9 +6,9 @@ use Rattle.std.specs.List.Sorted.{IsPartitionPoint, IsNonDecreasingBy}
 use Rattle.std.proofs.Math.Path.{fun_ext}
 use Rattle.std.proofs.lemmas.Bool.{le-leb, lt-leb, lt-ltb, le-ltb, cases_lt}
 use Rattle.std.proofs.lemmas.List.{take-append-drop, length-take-le, length-drop, length-replicate, get_or-take, get_or-drop}
-use Rattle.link_image.specs.declared.image.Image.{Image}
-use Rattle.link_image.specs.declared.image.Segment.{Segment}
-use Rattle.link_image.specs.Valid.{end_of, image_ok}
+use Rattle.bare_image.specs.declared.image.Image.{Image}
+use Rattle.bare_image.specs.declared.image.Segment.{Segment}
+use Rattle.bare_image.specs.Valid.{end_of, image_ok}
 use Rattle.paged_memory.specs.Mapping.{byte_in, with_bytes, stack_of}
 use Rattle.paged_memory.specs.Mapped.{beside}
 use Rattle.paged_memory.proofs.Added.{byte_in-append, byte_in-none, option_or-none}

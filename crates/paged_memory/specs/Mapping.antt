@@ -1,9 +1,9 @@
 -- What stands at each address.
 use Rattle.std.specs.Prelude.{ℕ, zero, suc, ◌+◌, ◌-◌, ◌*◌, ◌/◌, ◌%◌, Bool, ◌&&◌, nat_le, nat_lt, if◌then◌else◌, List, [], ◌∷◌, map, replicate, length, Option, Some, None, is_some, unwrap_or, slice_index}
 use Rattle.std.specs.List.{list_all, range_with_len}
-use Rattle.link_image.specs.declared.image.Image.{Image}
-use Rattle.link_image.specs.declared.image.Segment.{Segment}
-use Rattle.link_image.specs.Valid.{end_of}
+use Rattle.bare_image.specs.declared.image.Image.{Image}
+use Rattle.bare_image.specs.declared.image.Segment.{Segment}
+use Rattle.bare_image.specs.Valid.{end_of}
 
 -- the byte at each address, where one is mapped
 abbrev pub Mapping : Type 0

@@ -1,13 +1,13 @@
 ghost use Rattle.std.specs.Prelude.{◌≡◌, ◌≤◌, ◌<◌, ◌+◌, ◌*◌, ◌^◌, ◌∷◌, ◌++◌, length, vec_len, vec_capacity, AllPairs, IsTrue, MatchOption, None, IfOk, if◌then◌else◌};
 ghost use Rattle.std.specs.List.Sorted.{IsPartitionPoint};
-ghost use Rattle.link_image.specs.Valid.{image_ok, end_of};
+ghost use Rattle.bare_image.specs.Valid.{image_ok, end_of};
 ghost use Rattle.paged_memory.specs.Mapping.{byte_in, stack_of, with_bytes, bytes_from, bytes_of, is_mapped, number_at, word_at};
 ghost use Rattle.paged_memory.specs.Mapped.{IsMemory, IsPages, IsPart, mapped, paged};
 
 use crate::pages::{PAGE, Pages};
 use crate::part::Part;
 use crate::ranges::byte_count;
-use link_image::{Image, Segment};
+use bare_image::{Image, Segment};
 use std::alloc::{AllocError, Global};
 
 /// How many parts are remembered.

@@ -2,13 +2,13 @@
 
 ghost use Rattle.std.specs.Prelude.{◌≡◌, ◌≤◌, ◌<◌, ◌+◌, ◌^◌, [], ◌∷◌, length, vec_len, take, drop, IsTrue, MatchOption, None, IfOk, OnOk, IfSome, ℕ, All, AllPairs, ◌*◌};
 ghost use Rattle.std.specs.List.Sorted.{IsPartitionPoint};
-ghost use Rattle.link_image.specs.declared.image.Segment.{Segment};
+ghost use Rattle.bare_image.specs.declared.image.Segment.{Segment};
 ghost use Rattle.paged_memory.specs.Mapping.{byte_in, with_bytes, bytes_from, number_of};
-ghost use Rattle.link_image.specs.Valid as valid;
+ghost use Rattle.bare_image.specs.Valid as valid;
 ghost use Rattle.paged_memory.specs.Mapped.{place_of, end_of, Has, EndBy, IsPages, IsPart, paged, with_part, beside};
 
 use crate::part::Part;
-use link_image::Segment;
+use bare_image::Segment;
 use std::alloc::{AllocError, Global};
 
 /// The addresses of a page.

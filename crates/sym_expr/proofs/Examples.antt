@@ -22,9 +22,11 @@ use Rattle.sym_expr.specs.Linkable.{overlaps, overlaps_in, is_entered}
 use Rattle.sym_expr.specs.Modules.{in_order, loaded_intervals}
 use Rattle.sym_expr.specs.Patches.{function_blocks, name_in, Start, End}
 use Rattle.sym_expr.specs.Points.{word_at, after, goes_on, reached}
-use Rattle.sym_expr.specs.Program.{Program, program}
+use Rattle.sym_expr.specs.declared.program.Program.{Program}
+use Rattle.sym_expr.specs.Program.{program}
 use Rattle.sym_expr.specs.Tables.{Tables, no_tables, effective}
-use Rattle.sym_expr.specs.Targets.{Code, point, start_of, old_target}
+use Rattle.sym_expr.specs.declared.target.Target.TheVariants.{Code}
+use Rattle.sym_expr.specs.Targets.{point, start_of, old_target}
 
 -- an identifier of equal bytes
 abbrev id : ℕ → List ℕ

@@ -8,15 +8,16 @@ use Rattle.gt_model.specs.declared.intervals.Interval.{Interval}
 use Rattle.gt_model.specs.declared.modules.Module.{Module}
 use Rattle.gt_model.specs.declared.symbols.Payload.TheVariants as payloads
 use Rattle.sym_expr.specs.declared.layout.Layout.{Layout}
-use Rattle.sym_expr.specs.declared.image.LinkFault.TheVariants as faults
+use Rattle.sym_expr.specs.declared.link_fault.LinkFault.TheVariants as faults
 use Rattle.sym_expr.specs.Images.{image, link_fault}
 use Rattle.sym_expr.specs.Placing.{shape_of}
 use Rattle.sym_expr.specs.Layouts.{default_of}
-use Rattle.sym_expr.specs.Program.{program, Program}
+use Rattle.sym_expr.specs.declared.program.Program.{Program}
+use Rattle.sym_expr.specs.Program.{program}
 use Rattle.sym_expr.specs.Patches.{no_patches}
 use Rattle.sym_expr.specs.Tables.{no_tables, Tables}
 use Rattle.sym_expr.specs.declared.patches.PatchTable.{PatchTable}
-use Rattle.sym_expr.specs.declared.image.Segment.{Segment}
+use Rattle.bare_image.specs.declared.image.Segment.{Segment}
 
 abbrev pub u : ℕ → List ℕ
 u n = replicate 16 n

@@ -12,7 +12,8 @@ use Rattle.sym_expr.specs.declared.cause.Cause.TheVariants as causes
 use Rattle.sym_expr.specs.declared.point.Point.{Point}
 use Rattle.sym_expr.specs.Patches.{no_patches}
 use Rattle.sym_expr.specs.Points.{reached}
-use Rattle.sym_expr.specs.Program.{Program, program}
+use Rattle.sym_expr.specs.declared.program.Program.{Program}
+use Rattle.sym_expr.specs.Program.{program}
 use Rattle.sym_expr.specs.States.{State, start}
 use Rattle.sym_expr.specs.Steps.{step}
 use Rattle.sym_expr.specs.Tables.{no_tables}

@@ -8,19 +8,27 @@ use Rattle.a64_inst.specs.declared.filling.FitFault.TheVariants as fits
 use Rattle.a64_inst.specs.declared.kind.Kind.{Kind}
 use Rattle.a64_inst.specs.Fitting.{fit}
 use Rattle.a64_inst.specs.Kinds.{operand_kind}
-use Rattle.sym_expr.specs.declared.image.Image.{Image}
-use Rattle.sym_expr.specs.declared.image.Segment.{Segment}
-use Rattle.sym_expr.specs.declared.image.LinkFault.{LinkFault}
-use Rattle.sym_expr.specs.declared.image.LinkFault.TheVariants.{TooBig, Undefined, Range, Unaligned}
+use Rattle.bare_image.specs.declared.image.Image.{Image}
+use Rattle.bare_image.specs.declared.image.Segment.{Segment}
+use Rattle.sym_expr.specs.declared.link_fault.LinkFault.{LinkFault}
+use Rattle.sym_expr.specs.declared.link_fault.LinkFault.TheVariants.{TooBig, Undefined, Range, Unaligned}
 use Rattle.sym_expr.specs.declared.layout.Layout.{Layout}
 use Rattle.sym_expr.specs.declared.point.Point.{Point}
 use Rattle.sym_expr.specs.Differences.{diff_fit}
 use Rattle.sym_expr.specs.Layouts.{address_of}
 use Rattle.sym_expr.specs.Placing.{Placed, placed, new_size, stretch_size}
 use Rattle.sym_expr.specs.Points.{code_at, ins}
-use Rattle.sym_expr.specs.Program.{Word, Filling, Pointer, Difference, Entry, CodeBlock, Piece, CodePiece, DataPiece, Gap, Stretch, Program}
-use Rattle.sym_expr.specs.Targets.{Target, Number, Address, Code}
-use Rattle.sym_expr.specs.Targets as targets
+use Rattle.sym_expr.specs.declared.program.Word.{Word}
+use Rattle.sym_expr.specs.declared.program.Filling.{Filling}
+use Rattle.sym_expr.specs.declared.program.CodeBlock.{CodeBlock}
+use Rattle.sym_expr.specs.declared.program.Piece.{Piece}
+use Rattle.sym_expr.specs.declared.program.Stretch.{Stretch}
+use Rattle.sym_expr.specs.declared.program.Program.{Program}
+use Rattle.sym_expr.specs.declared.program.Filling.TheVariants.{Pointer, Difference, Entry}
+use Rattle.sym_expr.specs.declared.program.Piece.TheVariants.{Code as CodePiece, Data as DataPiece, Gap}
+use Rattle.sym_expr.specs.declared.target.Target.{Target}
+use Rattle.sym_expr.specs.declared.target.Target.TheVariants.{Number, Address, Code}
+use Rattle.sym_expr.specs.declared.target.Target.TheVariants as targets
 
 -- so many bytes of a number, the low one first
 abbrev pub bytes_of : ℕ → ℕ → List ℕ
@@ -203,10 +211,10 @@ size_faults l g =
 abbrev pub link_faults : Program → Layout → List LinkFault
 link_faults g l = size_faults l g ++ flat_map (stretch_faults l g) g.stretches
 
--- the first of it
+-- the first of several
+abbrev pub first_fault : List LinkFault → Option LinkFault
+first_fault [] = None
+first_fault (fault ∷ rest) = Some fault
+
 abbrev pub link_fault : Program → Layout → Option LinkFault
-link_fault g l = first (link_faults g l)
-  where
-    first : List LinkFault → Option LinkFault
-    first [] = None
-    first (fault ∷ rest) = Some fault
+link_fault g l = first_fault (link_faults g l)

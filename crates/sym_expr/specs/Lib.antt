@@ -17,3 +17,4 @@ pub mod Values
 pub mod States
 pub mod Symbolic
 pub mod Steps
+pub mod WellMade

@@ -93,7 +93,7 @@ abbrev pub word_of : Interval → ℕ → ℕ
 word_of i at = from_le_bytes w32 (bytes_at i at 4)
 
 abbrev pub has_id : List ℕ → Block → Bool
-has_id id b = bytes_eq id (id_of b)
+has_id id b = bytes_eq (id_of b) id
 
 -- the block of an identifier
 abbrev pub block_of : List ℕ → List Block → Option Block

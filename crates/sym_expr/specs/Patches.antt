@@ -5,6 +5,7 @@ use Rattle.std.specs.Option.{option_map_or}
 use Rattle.std.specs.Str.{bytes_eq}
 use Rattle.a64_inst.specs.declared.inst.Inst.{Inst}
 use Rattle.a64_inst.specs.declared.inst.Inst.TheVariants as rows
+use Rattle.a64_inst.specs.Kinds.{is_branch}
 use Rattle.a64_inst.specs.Table.{row}
 use Rattle.sym_expr.specs.declared.patches.FunLine.{FunLine}
 use Rattle.sym_expr.specs.declared.patches.FunLine.TheVariants as lines
@@ -20,35 +21,20 @@ no_patches = record { inserts = []; functions = [] }
 -- the words inserted at each offset of a block, in the order of the patches
 abbrev pub inserted_in : PatchTable → List ℕ → List (ℕ × PatchWord)
 inserted_in p block =
-    flat_map (λ (i : Insert). map (λ (w : PatchWord). (i.offset, w)) i.body) (filter (λ (i : Insert). bytes_eq block i.block) p.inserts)
+    flat_map (λ (i : Insert). map (λ (w : PatchWord). (i.offset, w)) i.body) (filter (λ (i : Insert). bytes_eq i.block block) p.inserts)
 
 -- those of one offset
 abbrev pub inserted_at : {A : Type 0} → ℕ → List (ℕ × A) → List A
 inserted_at {A} offset inserted = map (λ (w : ℕ × A). w.1) (filter (λ (w : ℕ × A). offset == w.0) inserted)
-
--- B, BL, B.cond, CBZ, CBNZ, TBZ, TBNZ
-abbrev pub is_branch_row : Inst → Bool
-is_branch_row (rows.BBl op imm26) = true
-is_branch_row (rows.BCond imm19 cond) = true
-is_branch_row (rows.CbzCbnz sf op imm19 rt) = true
-is_branch_row (rows.TbzTbnz b5 op b40 imm14 rt) = true
-is_branch_row _ = false
 
 -- BR, BLR, RET
 abbrev pub is_jump_row : Inst → Bool
 is_jump_row (rows.BrBlrRet which rn) = true
 is_jump_row _ = false
 
-abbrev pub holds_for : (Inst → Bool) → Option Inst → Bool
-holds_for test i = option_map_or test i false
-
--- a direct branch
-abbrev pub is_branch : ℕ → Bool
-is_branch word = holds_for is_branch_row (row word)
-
 -- a word after which control may be elsewhere: a direct branch, or BR, BLR or RET
 abbrev pub is_control : ℕ → Bool
-is_control word = holds_for (λ i. is_branch_row i || is_jump_row i) (row word)
+is_control word = is_branch word || option_map_or is_jump_row (row word) false
 
 -- each word of a function, and whether it begins a block: the first, one behind a label and one behind a control word (ours)
 abbrev pub with_starts : Bool → List FunLine → List (Bool × PatchWord)

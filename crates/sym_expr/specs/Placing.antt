@@ -5,7 +5,10 @@ use Rattle.sym_expr.specs.declared.shape.Shape.{Shape}
 use Rattle.sym_expr.specs.declared.shape.ShapeSpot.{ShapeSpot}
 use Rattle.sym_expr.specs.Layouts.{least_from}
 use Rattle.sym_expr.specs.Points.{data_size, object_alignment}
-use Rattle.sym_expr.specs.Program.{Piece, CodePiece, DataPiece, Gap, Stretch, Program}
+use Rattle.sym_expr.specs.declared.program.Piece.{Piece}
+use Rattle.sym_expr.specs.declared.program.Stretch.{Stretch}
+use Rattle.sym_expr.specs.declared.program.Program.{Program}
+use Rattle.sym_expr.specs.declared.program.Piece.TheVariants.{Code as CodePiece, Data as DataPiece, Gap}
 use Rattle.sym_expr.specs.Tables.{effective}
 
 -- a piece of an interval at its new offset

@@ -5,7 +5,13 @@ use Rattle.std.specs.Option.{option_map, option_map_or, option_and_then, option_
 use Rattle.std.specs.Str.{bytes_eq}
 use Rattle.sym_expr.specs.declared.point.Point.{Point}
 use Rattle.sym_expr.specs.Patches.{inserted_at}
-use Rattle.sym_expr.specs.Program.{Word, CodeBlock, DataBlock, Piece, CodePiece, DataPiece, Gap, Stretch, Program}
+use Rattle.sym_expr.specs.declared.program.Word.{Word}
+use Rattle.sym_expr.specs.declared.program.CodeBlock.{CodeBlock}
+use Rattle.sym_expr.specs.declared.program.DataBlock.{DataBlock}
+use Rattle.sym_expr.specs.declared.program.Piece.{Piece}
+use Rattle.sym_expr.specs.declared.program.Stretch.{Stretch}
+use Rattle.sym_expr.specs.declared.program.Program.{Program}
+use Rattle.sym_expr.specs.declared.program.Piece.TheVariants.{Code as CodePiece, Data as DataPiece, Gap}
 use Rattle.sym_expr.specs.Tables.{effective}
 use Rattle.sym_expr.specs.Targets.{point, start_of}
 
@@ -28,10 +34,10 @@ abbrev pub data_blocks : Program → List DataBlock
 data_blocks g = filter_map data_of (pieces_of g)
 
 abbrev pub code_at : Program → List ℕ → Option CodeBlock
-code_at g id = find (λ (b : CodeBlock). bytes_eq id b.id) (code_blocks g)
+code_at g id = find (λ (b : CodeBlock). bytes_eq b.id id) (code_blocks g)
 
 abbrev pub data_at : Program → List ℕ → Option DataBlock
-data_at g id = find (λ (b : DataBlock). bytes_eq id b.id) (data_blocks g)
+data_at g id = find (λ (b : DataBlock). bytes_eq b.id id) (data_blocks g)
 
 -- the sizes, in bytes, before anything is inserted
 abbrev pub code_size : CodeBlock → ℕ
@@ -68,7 +74,7 @@ abbrev pub after : Program → Point → Point
 after g at = option_map_or (λ b. after_in b at) (code_at g at.block) at
 
 abbrev pub is_code_piece : List ℕ → Piece → Bool
-is_code_piece id (CodePiece b) = bytes_eq id b.id
+is_code_piece id (CodePiece b) = bytes_eq b.id id
 is_code_piece id _ = false
 
 -- the pieces behind a code block

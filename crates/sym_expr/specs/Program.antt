@@ -13,60 +13,22 @@ use Rattle.sym_expr.specs.declared.difference.DifferenceForm.{DifferenceForm}
 use Rattle.sym_expr.specs.declared.patches.Function.{Function}
 use Rattle.sym_expr.specs.declared.patches.PatchTable.{PatchTable}
 use Rattle.sym_expr.specs.declared.patches.PatchWord.{PatchWord}
-use Rattle.sym_expr.specs.declared.point.Point.{Point}
+use Rattle.sym_expr.specs.declared.program.CodeBlock.{CodeBlock}
+use Rattle.sym_expr.specs.declared.program.DataBlock.{DataBlock}
+use Rattle.sym_expr.specs.declared.program.Filling.{Filling}
+use Rattle.sym_expr.specs.declared.program.Filling.TheVariants.{Pointer, Difference, Entry}
+use Rattle.sym_expr.specs.declared.program.Piece.{Piece}
+use Rattle.sym_expr.specs.declared.program.Piece.TheVariants.{Code as CodePiece, Data as DataPiece, Gap}
+use Rattle.sym_expr.specs.declared.program.Program.{Program}
+use Rattle.sym_expr.specs.declared.program.Stretch.{Stretch}
+use Rattle.sym_expr.specs.declared.program.Word.{Word}
 use Rattle.sym_expr.specs.Derived.{derived, interval_text}
 use Rattle.sym_expr.specs.Differences.{form_of}
 use Rattle.sym_expr.specs.Modules.{loaded_sections, is_code, id_of, size_of, end_of, covers, in_order, bytes_at, word_of, has_id}
 use Rattle.sym_expr.specs.Patches.{inserted_in, function_blocks}
 use Rattle.sym_expr.specs.Tables.{Tables, alignment_entry, expr_size}
-use Rattle.sym_expr.specs.Targets.{Target, old_target, word_target, function_block_id, start_of}
-
--- a word, and what its operand names, if it names something
-pub record Word : Type 0 where
-  pub word : ℕ
-  pub target : Option Target
-
--- what stands in data for an expression: an address of eight bytes; a difference of so many bytes of a first
--- target less a second; an entry of a table of jumps: its bytes, its scale, and two targets
-pub data Filling : Type 0 where
-  Pointer : Target → Filling
-  Difference : ℕ → Target → Target → Filling
-  Entry : ℕ → ℕ → Target → Target → Filling
-
--- a code block: its offset in the interval before anything is inserted, its own words, of four bytes each, and the
--- inserted words by their offset in the block
-pub record CodeBlock : Type 0 where
-  pub id : List ℕ
-  pub offset : ℕ
-  pub own : List Word
-  pub inserted : List (ℕ × Word)
-
--- a data block: its offset as for code, its bytes, what stands in them for expressions, by the offset in the block,
--- and its entry among the alignments
-pub record DataBlock : Type 0 where
-  pub id : List ℕ
-  pub offset : ℕ
-  pub bytes : List ℕ
-  pub fillings : List (ℕ × Filling)
-  pub alignment : Option ℕ
-
--- a block of an interval, or the bytes between two
-pub data Piece : Type 0 where
-  CodePiece : CodeBlock → Piece
-  DataPiece : DataBlock → Piece
-  Gap : List ℕ → Piece
-
--- an interval: its address, if it has one, and its pieces in block order, which have all its bytes
-pub record Stretch : Type 0 where
-  pub id : List ℕ
-  pub address : Option ℕ
-  pub pieces : List Piece
-
--- the intervals of loaded sections in order, those of the patches' functions last in the section of the entry, and
--- where it starts
-pub record Program : Type 0 where
-  pub stretches : List Stretch
-  pub entry : Point
+use Rattle.sym_expr.specs.declared.target.Target.{Target}
+use Rattle.sym_expr.specs.Targets.{old_target, word_target, function_block_id, start_of}
 
 -- what an expression of a code block names
 abbrev pub code_target : Module → PatchTable → ExprValue → Option Target

@@ -4,9 +4,13 @@ use Rattle.std.specs.Option.{option_map_or}
 use Rattle.std.specs.Str.{bytes_eq}
 use Rattle.sym_expr.specs.declared.point.Point.{Point}
 use Rattle.sym_expr.specs.Points.{data_at}
-use Rattle.sym_expr.specs.Program.{Filling, Pointer, Difference, Entry, DataBlock, Program}
-use Rattle.sym_expr.specs.Targets.{Target, Number, Address, Code}
-use Rattle.sym_expr.specs.Targets as targets
+use Rattle.sym_expr.specs.declared.program.Filling.{Filling}
+use Rattle.sym_expr.specs.declared.program.DataBlock.{DataBlock}
+use Rattle.sym_expr.specs.declared.program.Program.{Program}
+use Rattle.sym_expr.specs.declared.program.Filling.TheVariants.{Pointer, Difference, Entry}
+use Rattle.sym_expr.specs.declared.target.Target.{Target}
+use Rattle.sym_expr.specs.declared.target.Target.TheVariants.{Number, Address, Code}
+use Rattle.sym_expr.specs.declared.target.Target.TheVariants as targets
 use Rattle.sym_expr.specs.Values.{Object, Block, Stack, Value, Num, Addr, At, Diff, Cell, Byte, Part, Quarter, EntryPart, Blank, same_object}
 
 -- flags, each known or unknown

@@ -8,7 +8,8 @@ use Rattle.a64_inst.specs.Table.{row}
 use Rattle.sym_expr.specs.declared.cause.Cause.TheVariants.{Fell}
 use Rattle.sym_expr.specs.declared.point.Point.{Point}
 use Rattle.sym_expr.specs.Points.{reached, word_at}
-use Rattle.sym_expr.specs.Program.{Word, Program}
+use Rattle.sym_expr.specs.declared.program.Word.{Word}
+use Rattle.sym_expr.specs.declared.program.Program.{Program}
 use Rattle.sym_expr.specs.States.{State}
 use Rattle.sym_expr.specs.Symbolic.{Outcome, symbolic}
 

@@ -22,10 +22,12 @@ use Rattle.sym_expr.specs.declared.point.Point.{Point}
 use Rattle.sym_expr.specs.Images.{depth}
 use Rattle.sym_expr.specs.Placing.{Placed, placed}
 use Rattle.sym_expr.specs.Points.{after, data_at, object_alignment, is_code_piece}
-use Rattle.sym_expr.specs.Program.{Stretch, Program}
+use Rattle.sym_expr.specs.declared.program.Stretch.{Stretch}
+use Rattle.sym_expr.specs.declared.program.Program.{Program}
 use Rattle.sym_expr.specs.States.{KnownFlags, flags_unknown, State, register, with_register, cells_at, with_cells, value_cells, number_cells, object_size, less}
-use Rattle.sym_expr.specs.Targets.{Target, Number, Address, Code}
-use Rattle.sym_expr.specs.Targets as targets
+use Rattle.sym_expr.specs.declared.target.Target.{Target}
+use Rattle.sym_expr.specs.declared.target.Target.TheVariants.{Number, Address, Code}
+use Rattle.sym_expr.specs.declared.target.Target.TheVariants as targets
 use Rattle.sym_expr.specs.Values.{Object, Value, Num, Addr, At, PageOf, Diff, Step, Cell, Byte, Part, Quarter, EntryPart, Blank, same_object, same_point, same_target, same_value, number_in, value_of, page_value}
 
 -- what an operation comes to
@@ -89,9 +91,13 @@ moved o offset n = Addr o ((offset + n) % 2 ^ 64)
 abbrev pub across : Target → Target → Value → Outcome Value
 across p q v = if option_map_or (same_value v) (value_of q) false then or_stuck causes.Value (value_of p) else stuck causes.Value
 
+-- a step where it is no more than its number: 0 changes nothing
+abbrev pub plus_step : Value → ℕ → Outcome Value
+plus_step v n = if n == 0 then next v else stuck causes.Value
+
 -- the second point of a step gives the first, where the number is their distance
 abbrev pub stepped : Program → Point → Point → ℕ → Point → Outcome Value
-stepped g p q n at = if same_point at q && (n == wrapped 64 (dist g p q)) then next (At p) else stuck causes.Value
+stepped g p q n at = if same_point at q && (n == wrapped 64 (dist g p q)) then next (At p) else plus_step (At at) n
 
 abbrev pub added : Program → Value → Value → Outcome Value
 added g (Addr o x) (Num n) = next (moved o x n)
@@ -104,6 +110,10 @@ added g (At at) (Diff p q) = across p q (At at)
 added g (Diff p q) (At at) = across p q (At at)
 added g (At at) (Step p q n) = stepped g p q n at
 added g (Step p q n) (At at) = stepped g p q n at
+added g (PageOf t) (Step p q n) = plus_step (PageOf t) n
+added g (Step p q n) (PageOf t) = plus_step (PageOf t) n
+added g (Diff a b) (Step p q n) = plus_step (Diff a b) n
+added g (Step p q n) (Diff a b) = plus_step (Diff a b) n
 added g a b = of_numbers (λ m n. Num (sum_value Add 64 m n)) a b
 
 -- any value plus 0, in either order, is that value

@@ -1,11 +1,11 @@
 -- Patches that a module can take (the rules are ours).
-use Rattle.std.specs.Prelude.{◌≡◌, ◌≢◌, ℕ, suc, ◌%◌, ◌^◌, ◌<◌, ◌≤◌, Bool, true, false, IsTrue, IsSome, IfSome, List, [], ◌∷◌, ◌++◌, length, find, Contains, AllPairs, IsUtf8, MatchOption}
+use Rattle.std.specs.Prelude.{◌≡◌, ◌≢◌, ℕ, suc, ◌%◌, ◌^◌, ◌<◌, ◌≤◌, Bool, true, false, ◌||◌, IsTrue, IsSome, IfSome, List, [], ◌∷◌, ◌++◌, length, find, Contains, AllPairs, IsUtf8, MatchOption}
 use Rattle.std.specs.List.{flat_map, AllByRecursion}
-use Rattle.std.specs.Option.{IsSomeAnd}
+use Rattle.std.specs.Option.{IsSomeAnd, option_map_or}
 use Rattle.std.specs.Str.{bytes_eq}
 use Rattle.a64_inst.specs.declared.inst.Inst.{Inst}
 use Rattle.a64_inst.specs.declared.inst.Inst.TheVariants as rows
-use Rattle.a64_inst.specs.Kinds.{operand_kind}
+use Rattle.a64_inst.specs.Kinds.{operand_kind, is_branch}
 use Rattle.a64_inst.specs.Table.{row}
 use Rattle.gt_model.specs.declared.intervals.Block.{Block}
 use Rattle.gt_model.specs.declared.ir.Ir.{Ir}
@@ -23,9 +23,9 @@ use Rattle.sym_expr.specs.declared.patches.PatchWord.{PatchWord}
 use Rattle.sym_expr.specs.declared.patches.SymbolName.{SymbolName}
 use Rattle.sym_expr.specs.declared.patches.SymbolName.TheVariants as names
 use Rattle.sym_expr.specs.Derived.{derived, interval_text}
-use Rattle.sym_expr.specs.Expressions.{is_bad_sum}
+use Rattle.sym_expr.specs.Expressions.{is_bad_sum, aim_of}
 use Rattle.sym_expr.specs.Modules.{is_code, size_of, block_of, blocks_of, loaded_intervals}
-use Rattle.sym_expr.specs.Patches.{is_branch_row, holds_for, function_blocks}
+use Rattle.sym_expr.specs.Patches.{function_blocks}
 use Rattle.sym_expr.specs.Targets.{function_block_id, patch_target}
 
 abbrev pub line_words : FunLine → List PatchWord
@@ -61,25 +61,29 @@ pub record IsInsert (m : Module) (i : Insert) : Type 0 where
 abbrev pub IsNew : Module → List ℕ → Type 0
 IsNew m name = AllByRecursion (λ (s : Symbol). name ≢ s.name) m.symbols
 
--- direct branches, ADR, ADRP and loads of literals, which make no sense without a target
-abbrev pub is_aimed_row : Inst → Bool
-is_aimed_row (rows.AdrAdrp op lo hi rd) = true
-is_aimed_row (rows.Literal opc imm19 rt) = true
-is_aimed_row i = is_branch_row i
+-- ADR, ADRP and loads of literals
+abbrev pub is_literal_row : Inst → Bool
+is_literal_row (rows.AdrAdrp op lo hi rd) = true
+is_literal_row (rows.Literal opc imm19 rt) = true
+is_literal_row _ = false
+
+-- a word that makes no sense without a target: one of these, or a direct branch
+abbrev pub is_aimed : ℕ → Bool
+is_aimed word = is_branch word || option_map_or is_literal_row (row word) false
 
 -- there is such a symbol of the module, or such a name
 abbrev pub IsNamed : Module → PatchTable → SymbolName → Type 0
-IsNamed m p (names.Old id) = IsSome (find (λ (s : Symbol). bytes_eq id s.uuid) m.symbols)
+IsNamed m p (names.Old id) = IsSome (find (λ (s : Symbol). bytes_eq s.uuid id) m.symbols)
 IsNamed m p (names.New name) = Contains (new_names p) name
 
 -- a target of a word that has an operand
 pub record IsTarget (m : Module) (p : PatchTable) (word : ℕ) (t : PatchTarget) : Type 0 where
   pub operand : IsSome (operand_kind word)
   pub named : IsNamed m p t.symbol
-  pub good : is_bad_sum word t.offset (patch_target m p t) ≡ false
+  pub good : is_bad_sum word t.offset (aim_of (loaded_intervals m) (patch_target m p t)) ≡ false
 
 abbrev pub IsWord : Module → PatchTable → PatchWord → Type 0
-IsWord m p w = MatchOption w.target (holds_for is_aimed_row (row w.word) ≡ false) (IsTarget m p w.word)
+IsWord m p w = MatchOption w.target (is_aimed w.word ≡ false) (IsTarget m p w.word)
 
 -- the values of the patches' fields are of their types
 abbrev pub typed_name : SymbolName → Type 0

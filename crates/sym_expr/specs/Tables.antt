@@ -14,12 +14,12 @@ no_tables = record { alignment = []; sizes = [] }
 
 -- the alignment that the tables give a block, if they do
 abbrev pub alignment_entry : Tables → List ℕ → Option ℕ
-alignment_entry t id = option_map (λ (e : List ℕ × ℕ). e.1) (find (λ (e : List ℕ × ℕ). bytes_eq id e.0) t.alignment)
+alignment_entry t id = option_map (λ (e : List ℕ × ℕ). e.1) (find (λ (e : List ℕ × ℕ). bytes_eq e.0 id) t.alignment)
 
 -- the size of the expression at an offset of an interval
 abbrev pub expr_size : Tables → List ℕ → ℕ → ℕ
 expr_size t interval at =
-    unwrap_or (option_map (λ (e : (List ℕ × ℕ) × ℕ). e.1) (find (λ (e : (List ℕ × ℕ) × ℕ). bytes_eq interval e.0.0 && (at == e.0.1)) t.sizes)) 8
+    unwrap_or (option_map (λ (e : (List ℕ × ℕ) × ℕ). e.1) (find (λ (e : (List ℕ × ℕ) × ℕ). bytes_eq e.0.0 interval && (e.0.1 == at)) t.sizes)) 8
 
 -- the greatest power of two, up to 2 ^ k, that divides both numbers
 abbrev pub common_power : ℕ → ℕ → ℕ → ℕ

@@ -16,16 +16,11 @@ use Rattle.sym_expr.specs.declared.patches.PatchWord.{PatchWord}
 use Rattle.sym_expr.specs.declared.patches.SymbolName.{SymbolName}
 use Rattle.sym_expr.specs.declared.patches.SymbolName.TheVariants as names
 use Rattle.sym_expr.specs.declared.point.Point.{Point}
+use Rattle.sym_expr.specs.declared.target.Target.{Target}
+use Rattle.sym_expr.specs.declared.target.Target.TheVariants.{Number, Address, Code, Undefined}
 use Rattle.sym_expr.specs.Derived.{derived, block_text}
 use Rattle.sym_expr.specs.Modules.{is_code, id_of, size_of, block_of, blocks_of, loaded_intervals}
 use Rattle.sym_expr.specs.Patches.{inserted_in, inserted_at, function_blocks, FunPlace, Start, End, name_in}
-
--- a number, a data block and an offset modulo 2 ^ 64, a point of code, or a symbol that stands for nothing here
-pub data Target : Type 0 where
-  Number : ℕ → Target
-  Address : List ℕ → ℕ → Target
-  Code : Point → Target
-  Undefined : List ℕ → Target
 
 -- a number plus an offset, modulo 2 ^ 64
 abbrev pub plus_offset : ℕ → ℤ → ℕ
@@ -58,7 +53,7 @@ abbrev pub symbol_target : Module → PatchTable → Symbol → ℤ → Target
 symbol_target m p s offset = payload_target p (blocks_of (loaded_intervals m)) s offset s.payload
 
 abbrev pub old_target : Module → PatchTable → List ℕ → ℤ → Target
-old_target m p id offset = option_map_or (λ s. symbol_target m p s offset) (find (λ (s : Symbol). bytes_eq id s.uuid) m.symbols) (Undefined id)
+old_target m p id offset = option_map_or (λ s. symbol_target m p s offset) (find (λ (s : Symbol). bytes_eq s.uuid id) m.symbols) (Undefined id)
 
 -- the identifier of a block of a function
 abbrev pub function_block_id : Module → Function → ℕ → List ℕ

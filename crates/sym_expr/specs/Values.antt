@@ -2,8 +2,9 @@
 use Rattle.std.specs.Prelude.{ℕ, ◌*◌, ◌/◌, Bool, true, false, ◌==◌, ◌&&◌, List, Option, None, Some}
 use Rattle.std.specs.Str.{bytes_eq}
 use Rattle.sym_expr.specs.declared.point.Point.{Point}
-use Rattle.sym_expr.specs.Targets.{Target, Number, Address, Code}
-use Rattle.sym_expr.specs.Targets as targets
+use Rattle.sym_expr.specs.declared.target.Target.{Target}
+use Rattle.sym_expr.specs.declared.target.Target.TheVariants.{Number, Address, Code}
+use Rattle.sym_expr.specs.declared.target.Target.TheVariants as targets
 
 -- what holds bytes: a data block of the program, or the stack
 pub data Object : Type 0 where

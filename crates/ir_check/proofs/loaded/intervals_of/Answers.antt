@@ -1,10 +1,9 @@
-use Rattle.std.proofs.Common.{◌≡◌, ◌+◌, ◌++◌, take, get_or, ap, sym, subst, ◌∙◌, List}
+use Rattle.std.proofs.Common.{◌≡◌, ◌+◌, ◌++◌, take, get_or, ap, sym, ◌∙◌, List}
 use Rattle.node_arena.specs.Arenas.{section_at}
 use Rattle.node_arena.specs.declared.ids.IntervalId.{IntervalId}
 use Rattle.node_arena.specs.declared.ids.SectionId.{SectionId}
 use Rattle.node_arena.specs.declared.nodes.SectionNode.{SectionNode}
 use Rattle.ir_check.specs.AtGraph.{interval_ids}
-use Rattle.ir_check.specs.Spans.{AreIntervals}
 use Rattle.ir_check.proofs.First.{flat_map_more}
 use Rattle.ir_check.proofs.Live.{live_intervals, intervals_more}
 use Rattle.ir_check.proofs.loaded.intervals_of.Goals as goal

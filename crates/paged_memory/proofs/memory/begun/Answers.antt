@@ -1,7 +1,7 @@
 use Rattle.std.proofs.Common.{leb, rules}
 use Rattle.std.proofs.lemmas.Bool.{leb-true, leb-false}
 use Rattle.std.proofs.lemmas.List.Sorted.{IsPartitionPoint-from_clause, IsPartitionedBy-leb}
-use Rattle.link_image.specs.declared.image.Segment.{Segment}
+use Rattle.bare_image.specs.declared.image.Segment.{Segment}
 use Rattle.paged_memory.proofs.Images.{segments_rise}
 use Rattle.paged_memory.proofs.memory.begun.Goals as goal
 

@@ -1,5 +1,5 @@
 use Rattle.std.proofs.Common.{◌≡◌, ℕ, List, take, drop, replicate, None, ap, ap₂, ◌∙◌}
-use Rattle.link_image.specs.declared.image.Segment.{Segment}
+use Rattle.bare_image.specs.declared.image.Segment.{Segment}
 use Rattle.paged_memory.specs.Mapping.{Mapping, byte_in, with_bytes}
 use Rattle.paged_memory.specs.Mapped.{paged, beside}
 use Rattle.paged_memory.proofs.Images.{image_mapped, apart-take, apart-drop}

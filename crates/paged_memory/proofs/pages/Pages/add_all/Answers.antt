@@ -2,8 +2,8 @@ use Rattle.std.proofs.Common.{◌≡◌, ℕ, ◌+◌, ◌<◌, ◌≤◌, List,
 use Rattle.std.proofs.lemmas.List.{length-take-le, get_or-take, get_or_read, take_more}
 use Rattle.std.proofs.lemmas.List.Elements.{All-take}
 use Rattle.std.specs.Prelude.{AllPairs}
-use Rattle.link_image.specs.declared.image.Segment.{Segment}
-use Rattle.link_image.specs.Valid as valid
+use Rattle.bare_image.specs.declared.image.Segment.{Segment}
+use Rattle.bare_image.specs.Valid as valid
 use Rattle.paged_memory.specs.Mapping.{Mapping, byte_in, with_bytes}
 use Rattle.paged_memory.specs.Mapped.{paged, beside}
 use Rattle.paged_memory.proofs.Added.{segment_added}

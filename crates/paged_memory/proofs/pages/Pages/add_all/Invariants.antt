@@ -1,5 +1,5 @@
 use Rattle.std.proofs.Common.{◌≡◌, ℕ, ◌≤◌, All, take}
-use Rattle.link_image.specs.Valid as valid
+use Rattle.bare_image.specs.Valid as valid
 use Rattle.paged_memory.specs.Mapping.{byte_in}
 use Rattle.paged_memory.specs.Mapped.{IsPages, EndBy, paged, beside}
 use Rattle.paged_memory.proofs.pages.Pages.add_all.Given as goal

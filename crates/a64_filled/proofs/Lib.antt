@@ -1,0 +1,6 @@
+mod Replaced
+mod Known
+mod Kept
+mod Each
+mod Fitted
+mod Naming

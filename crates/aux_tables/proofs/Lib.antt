@@ -1,0 +1,3 @@
+pub mod OwnKeys
+pub mod PlaceLists
+pub mod Taken

@@ -1,0 +1,5 @@
+pub mod Places
+pub mod Loop
+pub mod RuleTests
+pub mod Segments
+pub mod Images

@@ -1,0 +1,8 @@
+use Rattle.std.proofs.Common.{◌≡◌, take, length}
+use Rattle.std.specs.Prelude.{sum_by}
+use Rattle.node_arena.specs.Arenas.{interval_at}
+use Rattle.node_arena.specs.declared.ids.IntervalId.{IntervalId}
+use Rattle.ir_check.proofs.counting.count_exprs.Given as goal
+
+abbrev pub invariant-loop-id : goal.invariant-loop-id
+invariant-loop-id l = l.total ≡ sum_by (λ (id : IntervalId). length (interval_at l.graph id).exprs) (take l.id-index l.ids)

@@ -1,5 +1,0 @@
-use Rattle.link_image.proofs.Images.{one_image}
-use Rattle.link_image.proofs.laws.one_spelling.Goals as goal
-
-pub returns-clause-image : goal.returns-clause-image
-returns-clause-image c = one_image

@@ -1,0 +1,5 @@
+pub mod Sorting
+pub mod Partition
+pub mod Steps
+pub mod Keys
+pub mod Sections

@@ -1,0 +1,6 @@
+pub mod Between
+pub mod Entries
+pub mod Keyed
+pub mod Knowing
+pub mod Naming
+pub mod Ordering

@@ -1,0 +1,18 @@
+//! The program of a module and its patches, as a value.
+#![tactic(auto)]
+
+mod bytes;
+mod context;
+mod data;
+mod expressions;
+mod forms;
+mod index;
+mod loaded;
+mod order;
+mod pieces;
+mod symbols;
+mod target;
+mod whole;
+mod words;
+
+pub use whole::program_of;
