@@ -1,5 +1,5 @@
 #!/usr/bin/env bash
-# Times `check` of programs of 100,000 blocks, symbols and expressions with two tables of 10^5 and 10^6 entries each,
+# Times `check` of programs of 100,000 blocks, symbols and expressions with two tables of 10^5 and 10^6 entries in all,
 # beside `recode` of the same file, and prints the growth. The same with the blocks in descending order and all at one
 # offset. Run it after `rt ci`, which leaves the program that is timed, or name a program as the first word.
 set -eu

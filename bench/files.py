@@ -1,5 +1,5 @@
-"""Writes a GTIRB file: of about a size, with many small nodes or few large contents; or a program with tables of so
-many entries each, whose blocks stand in order, in descending order, or all at one offset."""
+"""Writes a GTIRB file: of about a size, with many small nodes or few large contents; or a program with two tables of
+so many entries in all, whose blocks stand in order, in descending order, or all at one offset."""
 import struct
 import sys
 
@@ -62,7 +62,8 @@ def table(name, type_name, entries):
 
 
 def program(entries, blocks):
-    """100,000 blocks, each with a symbol and, where it isn't empty, a branch to the next; two tables of so many entries."""
+    """100,000 blocks, each with a symbol and, where it isn't empty, a branch to the next; two tables of so many entries in all."""
+    entries //= 2
     text = identifier(4, 0)
     places = [text + struct.pack("<Q", index % (4 * BLOCKS)) for index in range(entries)]
     # Offsets repeat past the interval's size: keys must differ, so later ones name other identifiers.

@@ -14,12 +14,17 @@ recode smallest.gtirb 0 done bytes=28
 recode two_versions.gtirb 7 format: version 4 and 3
 run exit_three.image 0 steps=3 exit 3
 run hello.image 0 steps=8 exit 0
+check checksum_o1.gtirb 0 ok sections=5 intervals=5 blocks=222 symbols=126 exprs=216 edges=314 tables=5 opaque=0
+layout exit_three.gtirb 0 done bytes=73
+link exit_three.gtirb 0 done bytes=72
 '
 jobs=$(awk 'NF { print $1 }' <<<"$answers" | sort -u)
 
 # Runs a job on each file of its folder of examples, from standard input to standard output.
 job() {
-    rt try --cases "../../examples/$1" -- "$1" in=- out=- >"$work/$1" 2>&1
+    local out=out=-
+    [ "$1" = check ] && out=
+    rt try --cases "../../examples/$1" -- "$1" in=- $out >"$work/$1" 2>&1
 }
 
 # The line before that of a case, and the case's status.
@@ -31,7 +36,7 @@ answered() {
 for name in $jobs; do job "$name" & done
 wait
 for name in $jobs; do
-    echo "\$ gtirb_a64 $name in=- out=-    on each file of examples/$name"
+    echo "\$ gtirb_a64 $name    on each file of examples/$name"
     grep -av '^cases=\|^rt:' "$work/$name" | cat -v
     echo
 done

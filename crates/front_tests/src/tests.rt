@@ -5,6 +5,7 @@ use std::process::Abort;
 use std::test::Fail;
 
 mod desks;
+mod generating;
 mod recoding;
 mod running;
 mod words;

@@ -116,3 +116,10 @@ pub chain_stops : {S T : Type 0} (first : Stage S) (next : S → Stage T) (end :
 chain_stops first next end (Ok value) h w = absurd w
 chain_stops first next (ends.Fault refusal) (Err e) h w = subst (λ (x : End Refusal). Answers (chain first next) (Err x)) (sym w) (inl h)
 chain_stops first next ends.Memory (Err e) h w = subst (λ (x : End Refusal). Answers (chain first next) (Err x)) (sym w) tt
+
+-- a chain goes on from what its first stage gives
+pub chain_goes : {S T : Type 0} (first : Stage S) (next : S → Stage T) (mid : S) (r : Result T (End Refusal)) → first (Ok mid) → Answers (next mid) r
+    → Answers (chain first next) r
+chain_goes first next mid (Ok value) h k = (mid, h, k)
+chain_goes first next mid (Err (ends.Fault refusal)) h k = inr (mid, h, k)
+chain_goes first next mid (Err ends.Memory) h k = tt

@@ -6,7 +6,8 @@ use Rattle.gr_base.specs.declared.end.End.TheVariants as ends
 use Rattle.gr_base.specs.declared.whole.ReadEnd.{ReadEnd}
 use Rattle.gr_base.specs.declared.whole.ReadEnd.TheVariants as reads
 use Rattle.gt_front.specs.declared.answer.Answer.{Answer}
-use Rattle.gt_front.specs.declared.answer.Answer.TheVariants.{Done, Usage, ReadFault, WriteFault, Memory, TooLarge, Format, Image}
+use Rattle.gt_front.specs.declared.answer.Answer.TheVariants.{Done, Usage, ReadFault, WriteFault, Memory, TooLarge, Format, Check, Image}
+use Rattle.gt_front.specs.declared.answer.Answer.TheVariants.{Layout as LayoutAnswer, Link as LinkAnswer}
 use Rattle.gt_front.specs.declared.answer.Role.{Role}
 use Rattle.gt_front.specs.declared.inputs.Unread.{Unread}
 use Rattle.gt_front.specs.declared.verdict.Finished.{Finished}
@@ -26,13 +27,19 @@ use Rattle.gt_front.proofs.Telling.{told_always, told_map, both_map, both_weaken
 -- the refusal that an answer tells of
 refusal_in : Answer → Option Refusal
 refusal_in (Format fault) = Some (refusals.Format fault)
+refusal_in (Check fault) = Some (refusals.Check fault)
+refusal_in (LayoutAnswer fault) = Some (refusals.Layout fault)
+refusal_in (LinkAnswer fault) = Some (refusals.Link fault)
 refusal_in (Image fault) = Some (refusals.Image fault)
 refusal_in _ = None
 
 refusal_again : (refusal : Refusal) → refusal_in (answer_of refusal) ≡ Some refusal
 unfolding refusal_in
 refusal_again (refusals.Format fault) = refl
-refusal_again _ = refl
+refusal_again (refusals.Check fault) = refl
+refusal_again (refusals.Layout fault) = refl
+refusal_again (refusals.Link fault) = refl
+refusal_again (refusals.Image fault) = refl
 
 -- an answer of another kind isn't that of a refusal
 not_refusal : (refusal : Refusal) (other : Answer) → refusal_in other ≡ None → answer_of refusal ≡ other → ⊥

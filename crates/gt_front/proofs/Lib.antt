@@ -9,3 +9,7 @@ pub mod Endings
 pub mod Serving
 pub mod Usages
 pub mod Requireds
+pub mod Binding
+pub mod LineWords
+pub mod LayoutTexts
+pub mod Programs

@@ -6,7 +6,7 @@ use Rattle.std.specs.Option.{option_map, option_map_or}
 use Rattle.gt_front.specs.declared.answer.Role.{Role}
 use Rattle.gt_front.specs.declared.table.Job.{Job}
 use Rattle.gt_front.specs.declared.table.WordName.{WordName}
-use Rattle.gt_front.specs.declared.table.WordName.TheVariants.{In, Patch, Layout, Input, Out, Steps}
+use Rattle.gt_front.specs.declared.table.WordName.TheVariants.{In, Patch, Layout, Input, Out, Module, Plain, Isa, Steps, Seed, Blocks}
 use Rattle.gt_front.specs.Picked.{Picked, asked, picked, settings_of}
 use Rattle.gt_front.specs.Table.{job_named, requires, required_of, role_word, same_name}
 use Rattle.gt_front.specs.Words.{WordsOk, lacks_any, value_of}
@@ -17,7 +17,12 @@ same_name_is Patch Patch e = refl
 same_name_is Layout Layout e = refl
 same_name_is Input Input e = refl
 same_name_is Out Out e = refl
+same_name_is Module Module e = refl
+same_name_is Plain Plain e = refl
+same_name_is Isa Isa e = refl
 same_name_is Steps Steps e = refl
+same_name_is Seed Seed e = refl
+same_name_is Blocks Blocks e = refl
 same_name_is _ _ e = absurd cc
 
 -- what fails of each name fails of one of them

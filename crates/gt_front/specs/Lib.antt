@@ -8,7 +8,10 @@ pub mod Inputs
 pub mod Stages
 pub mod Recode
 pub mod Run
+pub mod Modules
+pub mod Demo
 pub mod Outcome
 pub mod Causes
 pub mod Reads
 pub mod Served
+pub mod FaultTexts

@@ -2,9 +2,11 @@
 use Rattle.std.specs.Prelude.{ℕ, List, ◌++◌, codes}
 use Rattle.std.specs.Fmt.{decimal}
 use Rattle.gt_front.specs.declared.answer.Answer.{Answer}
-use Rattle.gt_front.specs.declared.answer.Answer.TheVariants.{Done, Usage, ReadFault, WriteFault, Memory, TooLarge, Format, Image}
+use Rattle.gt_front.specs.declared.answer.Answer.TheVariants.{Done, Usage, ReadFault, WriteFault, Memory, TooLarge, Format, Check, Image}
+use Rattle.gt_front.specs.declared.answer.Answer.TheVariants.{Layout as LayoutAnswer, Link as LinkAnswer}
 use Rattle.gt_front.specs.declared.answer.Role.{Role}
 use Rattle.gt_front.specs.declared.answer.Role.TheVariants.{In, Patch, Layout, Input}
+use Rattle.gt_front.specs.FaultTexts.{check_text, layout_text, link_text}
 use Rattle.gt_read.specs.FaultText.{fault_text}
 
 -- a role in a note
@@ -23,4 +25,7 @@ note WriteFault = codes "write fault"
 note Memory = codes "memory"
 note (TooLarge role) = codes "too large: " ++ role_name role
 note (Format fault) = codes "format: " ++ fault_text fault
+note (Check fault) = codes "check " ++ check_text fault
+note (LayoutAnswer fault) = codes "layout " ++ layout_text fault
+note (LinkAnswer fault) = codes "link " ++ link_text fault
 note (Image fault) = codes "image at " ++ decimal fault.place

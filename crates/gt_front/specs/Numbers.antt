@@ -1,9 +1,11 @@
 -- The numbers of words.
-use Rattle.std.specs.Prelude.{ℕ, ◌≤◌, ◌+◌, ◌-◌, ◌*◌, fold, Bool, ◌&&◌, nat_lt, nat_le, List, length, Option, Some, None, if◌then◌else◌}
-use Rattle.std.specs.List.{list_all}
-use Rattle.std.specs.Option.{option_and_then}
+use Rattle.std.specs.Prelude.{ℕ, ◌≤◌, ◌+◌, ◌-◌, ◌*◌, fold, ℤ, pos, Bool, ◌&&◌, ◌||◌, ◌==◌, is_some, codes, [], ◌∷◌, nat_lt, nat_le, List, length, Option, Some, None, if◌then◌else◌}
+use Rattle.std.specs.List.{list_all, slice_split}
+use Rattle.std.specs.Option.{option_and_then, option_map_or}
+use Rattle.std.specs.Str.{bytes_eq}
 use Rattle.gt_front.specs.declared.table.Bounds.{Bounds}
 use Rattle.gt_front.specs.declared.number.TheConstants.{MOST_NUMBER}
+use Rattle.gt_front.specs.declared.table.TheConstants.{FLAG}
 
 -- is a byte a decimal digit
 abbrev pub is_digit : ℕ → Bool
@@ -30,3 +32,32 @@ within bounds value = if nat_le bounds.least value && nat_le value bounds.most t
 -- the number of a text, if it is one within the bounds
 abbrev pub bounded : Bounds → List ℕ → Option ℕ
 bounded bounds text = option_and_then (within bounds) (number_of MOST_NUMBER text)
+
+-- is this byte a comma
+abbrev pub is_comma : ℕ → Bool
+is_comma byte = byte == 44
+
+-- the texts between the commas of a text
+abbrev pub between_commas : List ℕ → List (List ℕ)
+between_commas text = slice_split is_comma text
+
+-- a text that stands for every flag
+abbrev pub is_every : List ℕ → Bool
+is_every text = bytes_eq text (codes "*")
+
+-- each text is the number of a flag
+abbrev pub are_numbers : List (List ℕ) → Bool
+are_numbers parts = list_all (λ part. is_some (bounded FLAG part)) parts
+
+-- `*`, or numbers of flags
+abbrev pub are_flags : List ℕ → Bool
+are_flags text = is_every text || are_numbers (between_commas text)
+
+-- the flags of those texts that are numbers of flags
+abbrev pub flags_among : List (List ℕ) → List ℤ
+flags_among [] = []
+flags_among (part ∷ parts) = option_map_or (λ n. pos n ∷ flags_among parts) (bounded FLAG part) (flags_among parts)
+
+-- the flags that the numbers of a text stand for
+abbrev pub flags_of : List ℕ → List ℤ
+flags_of text = flags_among (between_commas text)

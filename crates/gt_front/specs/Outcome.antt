@@ -3,7 +3,7 @@ use Rattle.std.specs.Prelude.{ℕ, List, Option, Some, None, Result}
 use Rattle.gr_base.specs.Desk.{Files}
 use Rattle.gt_front.specs.declared.answer.TheConstants.{ROLES}
 use Rattle.gt_front.specs.declared.table.Job.{Job}
-use Rattle.gt_front.specs.declared.table.Job.TheVariants.{Recode, Run}
+use Rattle.gt_front.specs.declared.table.Job.TheVariants.{Recode, Check, Layout, Link, Run, Demo}
 use Rattle.gt_front.specs.declared.verdict.Finished.{Finished}
 use Rattle.gt_front.specs.declared.verdict.Refusal.{Refusal}
 use Rattle.gt_front.specs.Inputs.{Contents, AllHeld, files_as, contents_of}
@@ -11,6 +11,8 @@ use Rattle.gt_front.specs.Picked.{Picked}
 use Rattle.gt_front.specs.Stages.{Stage}
 use Rattle.gt_front.specs.Recode.{Recodes, ReadsBack}
 use Rattle.gt_front.specs.Run.{Runs}
+use Rattle.gt_front.specs.Modules.{Checks, Lays, Links}
+use Rattle.gt_front.specs.Demo.{Demos}
 
 -- a pass that is handed in; no job takes one yet
 abbrev pub Pass : Type 0
@@ -23,7 +25,11 @@ Verdict = Result Finished Refusal
 -- what each job makes of the values of its words, the passes and the contents of its inputs
 abbrev pub makes_as : Job → Picked → List Pass → Contents → Stage Finished
 makes_as Recode asked passes contents = Recodes contents
+makes_as Check asked passes contents = Checks asked contents
+makes_as Layout asked passes contents = Lays asked contents
+makes_as Link asked passes contents = Links asked contents
 makes_as Run asked passes contents = Runs asked.settings contents
+makes_as Demo asked passes contents = Demos asked.settings
 
 -- what the job that is asked for makes
 abbrev pub makes : Picked → List Pass → Contents → Stage Finished
@@ -32,7 +38,7 @@ makes asked passes contents = makes_as asked.job asked passes contents
 -- what each job promises beside that, where it is done with these contents
 abbrev pub Promises : Job → Contents → Type 0
 Promises Recode contents = ReadsBack contents
-Promises Run contents = Unit {0}
+Promises _ contents = Unit {0}
 
 -- a verdict over some files
 abbrev pub Outcomes : Type 1

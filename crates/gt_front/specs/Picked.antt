@@ -5,8 +5,8 @@ use Rattle.gt_front.specs.declared.answer.Role.{Role}
 use Rattle.gt_front.specs.declared.table.Bounds.{Bounds}
 use Rattle.gt_front.specs.declared.table.Job.{Job}
 use Rattle.gt_front.specs.declared.table.WordName.{WordName}
-use Rattle.gt_front.specs.declared.table.WordName.TheVariants.{Out, Steps}
-use Rattle.gt_front.specs.declared.table.TheConstants.{STEPS}
+use Rattle.gt_front.specs.declared.table.WordName.TheVariants.{Out, Module, Plain, Isa, Steps, Seed, Blocks}
+use Rattle.gt_front.specs.declared.table.TheConstants.{MODULE, ISA, STEPS, SEED, BLOCKS}
 use Rattle.gt_front.specs.declared.words.Settings.{Settings}
 use Rattle.gt_front.specs.declared.words.Picked as declared
 use Rattle.gt_front.specs.Numbers.{bounded, IsWithin}
@@ -20,6 +20,8 @@ pub record Picked : Type 0 where
   pub file : Role → Option (List ℕ)
   -- the name of the file that is written, if a word gives it
   pub out : Option (List ℕ)
+  -- what a word says of the flags that are plain, if there is one
+  pub plain : Option (List ℕ)
   pub settings : Settings
 
 -- the number that words give a name, or the one that stands where none does
@@ -28,11 +30,19 @@ number_in name bounds words = unwrap_or (option_and_then (bounded bounds) (value
 
 -- what the words behind the job say that names no file
 abbrev pub settings_of : List (List ℕ) → Settings
-settings_of words = record { steps = number_in Steps STEPS words }
+settings_of words = record {
+  ordinal = number_in Module MODULE words;
+  isa = number_in Isa ISA words;
+  steps = number_in Steps STEPS words;
+  seed = number_in Seed SEED words;
+  blocks = number_in Blocks BLOCKS words;
+}
 
 -- each number is within its bounds
 abbrev pub InBounds : Settings → Type 0
-InBounds settings = IsWithin STEPS settings.steps
+InBounds settings =
+    IsWithin MODULE settings.ordinal × IsWithin ISA settings.isa × IsWithin STEPS settings.steps × IsWithin SEED settings.seed
+    × IsWithin BLOCKS settings.blocks
 
 -- what the words behind a job ask for
 abbrev pub asked : Job → List (List ℕ) → Settings → Picked
@@ -40,6 +50,7 @@ asked job words settings = record {
   job = job;
   file = λ role. value_of (role_word role) words;
   out = value_of Out words;
+  plain = value_of Plain words;
   settings = settings;
 }
 

@@ -21,6 +21,10 @@ abbrev pub just : {T : Type 0} → T → Stage T
 just value (Ok other) = other ≡ value
 just value (Err refusal) = ⊥
 
+-- the stage that gives this result, or refuses so
+abbrev pub exactly : {T : Type 0} → Result T Refusal → Stage T
+exactly given other = other ≡ given
+
 -- a stage, and then one that goes on from its result
 abbrev pub chain : {S T : Type 0} → Stage S → (S → Stage T) → Stage T
 chain {S} first next (Ok value) = (mid : S) × first (Ok mid) × next mid (Ok value)

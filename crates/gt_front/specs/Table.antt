@@ -7,10 +7,11 @@ use Rattle.gt_front.specs.declared.answer.Role.{Role}
 use Rattle.gt_front.specs.declared.answer.Role.TheVariants as roles
 use Rattle.gt_front.specs.declared.table.TheConstants.{JOBS, NAMES}
 use Rattle.gt_front.specs.declared.table.Job.{Job}
-use Rattle.gt_front.specs.declared.table.Job.TheVariants.{Recode, Run}
+use Rattle.gt_front.specs.declared.table.Job.TheVariants.{Recode, Check, Run, Demo}
+use Rattle.gt_front.specs.declared.table.Job.TheVariants.{Layout as LayoutJob, Link as LinkJob}
 use Rattle.gt_front.specs.declared.table.Kind.{Kind}
 use Rattle.gt_front.specs.declared.table.WordName.{WordName}
-use Rattle.gt_front.specs.declared.table.WordName.TheVariants.{In, Patch, Layout, Input, Out, Steps}
+use Rattle.gt_front.specs.declared.table.WordName.TheVariants.{In, Patch, Layout, Input, Out, Module, Plain, Isa, Steps, Seed, Blocks}
 
 -- a job: its word, the names that it requires, and those that it may have
 pub record JobWords : Type 0 where
@@ -46,7 +47,11 @@ job_named word = option_map (λ row. row.job) (find (λ row. bytes_eq row.text w
 -- are two jobs one
 abbrev pub same_job : Job → Job → Bool
 same_job Recode Recode = true
+same_job Check Check = true
+same_job LayoutJob LayoutJob = true
+same_job LinkJob LinkJob = true
 same_job Run Run = true
+same_job Demo Demo = true
 same_job _ _ = false
 
 -- the names that a job requires
@@ -68,7 +73,12 @@ same_name Patch Patch = true
 same_name Layout Layout = true
 same_name Input Input = true
 same_name Out Out = true
+same_name Module Module = true
+same_name Plain Plain = true
+same_name Isa Isa = true
 same_name Steps Steps = true
+same_name Seed Seed = true
+same_name Blocks Blocks = true
 same_name _ _ = false
 
 -- does a job require a word of this name

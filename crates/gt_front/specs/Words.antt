@@ -6,8 +6,8 @@ use Rattle.gt_front.specs.declared.table.Job.{Job}
 use Rattle.gt_front.specs.declared.table.WordName.{WordName}
 use Rattle.gt_front.specs.declared.table.Kind.{Kind}
 use Rattle.gt_front.specs.declared.words.Said.{Said}
-use Rattle.gt_front.specs.declared.table.Kind.TheVariants.{File, Number}
-use Rattle.gt_front.specs.Numbers.{bounded}
+use Rattle.gt_front.specs.declared.table.Kind.TheVariants.{File, Number, Flags}
+use Rattle.gt_front.specs.Numbers.{bounded, are_flags}
 use Rattle.gt_front.specs.Table.{job_named, name_named, required_of, same_name, takes}
 
 -- the name of a file has 1 to 4,096 bytes
@@ -18,6 +18,7 @@ is_file_name value = nat_lt 0 (length value) && nat_le (length value) 4096
 abbrev pub fits : Kind → List ℕ → Bool
 fits File value = is_file_name value
 fits (Number bounds) value = is_some (bounded bounds value)
+fits Flags value = are_flags value
 
 -- is this byte `=`
 abbrev pub is_equals : ℕ → Bool

@@ -6,6 +6,9 @@ use crate::verdict::Refusal;
 use bare_image::ImageFault;
 use gr_base::{End, ReadEnd, Text};
 use gt_read::FormatFault;
+use layout_plan::LayoutFault;
+use node_arena::CheckFault;
+use sym_expr::LinkFault;
 
 /// What an input file is to a job, in the order in which they are read.
 #[derive(Clone, Copy, Debug, PartialEq, Eq)]
@@ -33,6 +36,12 @@ pub enum Answer {
     TooLarge(Role),
     /// The bytes aren't a GTIRB file.
     Format(FormatFault),
+    /// Something is wrong with the nodes of the file, or with the module that is asked for.
+    Check(CheckFault),
+    /// The bytes aren't a layout, or one that isn't accepted.
+    Layout(LayoutFault),
+    /// The module can't be linked under the layout.
+    Link(LinkFault),
     /// The bytes aren't an image.
     Image(ImageFault),
 }
@@ -50,6 +59,9 @@ impl Answer {
             Answer::Memory => 5,
             Answer::TooLarge(_) => 6,
             Answer::Format(_) => 7,
+            Answer::Check(_) => 8,
+            Answer::Layout(_) => 11,
+            Answer::Link(_) => 12,
             Answer::Image(_) => 14,
         }
     }
@@ -71,6 +83,9 @@ impl Answer {
     {
         match refusal {
             Refusal::Format(fault) => Answer::Format(fault),
+            Refusal::Check(fault) => Answer::Check(fault),
+            Refusal::Layout(fault) => Answer::Layout(fault),
+            Refusal::Link(fault) => Answer::Link(fault),
             Refusal::Image(fault) => Answer::Image(fault),
         }
     }

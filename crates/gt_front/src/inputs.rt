@@ -50,7 +50,8 @@ impl Contents {
         }
     }
 
-    fn of(&self, role: Role) -> &Option<Bytes>
+    /// The bytes of the input of a role, if the words name one.
+    pub fn of(&self, role: Role) -> &Option<Bytes>
         ensures { result.now ≡ contents_view self.now role }
     {
         match role {

@@ -10,8 +10,10 @@ ghost use Rattle.gt_front.specs.declared.answer.Role.{Role};
 ghost use Rattle.gt_front.specs.declared.table.WordName.TheVariants as WordName;
 ghost use Rattle.gt_front.specs.Words.{Usage, WordsOk};
 
+use asm_read::laws::one_split;
 use bare_image::laws::{image_or_fault, one_spelling};
 use gt_read::laws::{a_file_has_no_fault, no_fault_is_a_file, one_meaning};
+use layout_plan::laws::{one_layout_or_fault, one_saying};
 
 /// Words are those of a job, or exactly one index is at fault.
 pub fn words_or_usage()
@@ -35,6 +37,7 @@ pub fn one_outcome()
     one_meaning();
     one_spelling();
     image_or_fault();
+    one_layout_or_fault();
 }
 
 /// Over files that hold each input of a job's words there is an outcome.
@@ -45,4 +48,6 @@ pub fn an_outcome()
     a_file_has_no_fault();
     no_fault_is_a_file();
     image_or_fault();
+    one_split();
+    one_saying();
 }

@@ -3,11 +3,18 @@
 #![tactic(auto)]
 
 mod answer;
+mod check;
+mod demo;
+mod fault_text;
 mod inputs;
 pub mod laws;
+mod layout;
+mod link;
+mod modules;
 mod note;
 mod number;
 mod output;
+mod program;
 mod recode;
 mod run;
 mod serve;
@@ -19,5 +26,8 @@ mod words;
 
 pub use answer::{Answer, Role};
 pub use gt_read::FormatFault;
+pub use ir_check::{CheckFault, CheckReport};
+pub use layout_plan::LayoutFault;
+pub use link_image::LinkFault;
 pub use note::note_text;
 pub use serve::serve_words;

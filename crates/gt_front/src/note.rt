@@ -2,6 +2,7 @@ ghost use Rattle.std.specs.Prelude.{◌≡◌, Some, IfOk};
 ghost use Rattle.gt_front.specs.Note.{note, role_name};
 
 use crate::answer::{Answer, Role};
+use crate::fault_text::{CheckNote, LayoutNote, LinkNote};
 use gr_base::Text;
 use std::alloc::{AllocError, Global};
 use std::fmt;
@@ -31,6 +32,9 @@ impl fmt::Display for Answer {
             Answer::Memory => write!(f, "memory"),
             Answer::TooLarge(role) => write!(f, "too large: {role}"),
             Answer::Format(fault) => write!(f, "format: {fault}"),
+            Answer::Check(fault) => write!(f, "check {}", CheckNote(fault)),
+            Answer::Layout(fault) => write!(f, "layout {}", LayoutNote(*fault)),
+            Answer::Link(fault) => write!(f, "link {}", LinkNote(*fault)),
             Answer::Image(fault) => write!(f, "image at {}", fault.place),
         }
     }

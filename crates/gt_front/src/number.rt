@@ -1,7 +1,9 @@
-ghost use Rattle.std.specs.Prelude.{◌≡◌, ◌≤◌, ◌^◌, IfSome};
-ghost use Rattle.gt_front.specs.Numbers.{number_of, bounded, IsWithin};
+ghost use Rattle.std.specs.Prelude.{◌≡◌, ◌≤◌, ◌^◌, map, IfOk, IfSome};
+ghost use Rattle.gt_front.specs.Numbers.{number_of, bounded, are_flags, are_numbers, between_commas, flags_among, flags_of, is_every, IsWithin};
 
-use crate::table::Bounds;
+use crate::table::{Bounds, FLAG};
+use gr_base::Seq;
+use std::alloc::{AllocError, Global};
 
 /// The most that a number of a word can be.
 pub const MOST_NUMBER: u64 = 4_294_967_295;
@@ -38,4 +40,53 @@ impl Bounds {
             None
         }
     }
+}
+
+/// Whether a text stands for every flag.
+pub fn is_every(text: &str) -> bool
+    ensures { result ≡ is_every text.now }
+{
+    text == "*"
+}
+
+/// Whether the texts between the commas of a text are numbers of flags.
+fn are_numbers(text: &str) -> bool
+    ensures { result ≡ are_numbers (between_commas text.now) }
+{
+    text.split(',').all(|part| FLAG.number(part).is_some())
+}
+
+/// Whether a text is `*`, or numbers of flags with commas between them.
+pub fn are_flags(text: &str) -> bool
+    ensures { result ≡ are_flags text.now }
+{
+    is_every(text) || are_numbers(text)
+}
+
+/// The texts between the commas of a text.
+fn between_commas(alloc: Global, text: &str) -> Result<Vec<&str>, AllocError>
+    ensures { IfOk result (λ parts. map (λ part. part.now) parts.items ≡ between_commas text.now) }
+{
+    text.split(',').collect(alloc)
+}
+
+/// The flags of those texts that are numbers of flags.
+fn flags_among(alloc: Global, parts: &[&str]) -> Result<Seq<i32>, AllocError>
+    ensures { IfOk result (λ flags. flags ≡ flags_among (map (λ part. part.now) parts.now)) }
+{
+    let mut flags = Seq::new(alloc);
+    for part in parts {
+        if let Some(flag) = FLAG.number(part) {
+            flags.push(flag as i32)?;
+        }
+    }
+    Ok(flags)
+}
+
+/// The flags of the numbers of a text.
+pub fn flags_of(alloc: Global, text: &str) -> Result<Seq<i32>, AllocError>
+    ensures { IfOk result (λ flags. flags ≡ flags_of text.now) }
+{
+    let parts = between_commas(alloc, text)?;
+    flags_among(alloc, parts.as_slice())
 }

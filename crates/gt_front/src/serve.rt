@@ -11,8 +11,12 @@ ghost use Rattle.gt_front.specs.Served.{Served};
 ghost use Rattle.gt_front.specs.Stages.{Answers};
 
 use crate::answer::Answer;
+use crate::check::check;
+use crate::demo::demo;
 use crate::inputs::{Contents, read_inputs};
 use crate::laws::one_outcome;
+use crate::layout::layout;
+use crate::link::link;
 use crate::output::write_output;
 use crate::recode::recode;
 use crate::run::run;
@@ -30,7 +34,11 @@ fn make(alloc: Global, asked: &Picked<'_>, contents: &Contents) -> Result<Finish
 {
     match asked.job {
         Job::Recode => recode(alloc, contents),
+        Job::Check => check(alloc, asked, contents),
+        Job::Layout => layout(alloc, asked, contents),
+        Job::Link => link(alloc, asked, contents),
         Job::Run => run(alloc, asked.settings, contents),
+        Job::Demo => demo(alloc, asked.settings),
     }
 }
 

@@ -1,5 +1,6 @@
 ghost use Rattle.std.specs.Prelude.{◌≡◌, ◌<◌, IfOk};
 ghost use Rattle.gt_model.specs.Ordered.{ordered};
+ghost use Rattle.gt_model.specs.Typed.{typed};
 ghost use Rattle.gt_front.specs.Stages.{Answers, meant, imaged};
 ghost use Rattle.bare_image.specs.Valid.{image_ok};
 
@@ -15,6 +16,7 @@ use std::alloc::Global;
 /// The IR that the bytes of a file mean.
 pub fn read_ir(alloc: Global, bytes: &[u8]) -> Result<Ir, End<Refusal>>
     ensures stage { Answers (meant bytes.now) result }
+    ensures typed { IfOk result (λ ir. typed ir) }
     ensures order { IfOk result (λ ir. ordered ir) }
     ensures version { IfOk result (λ ir. ir.version < 256) }
 {

@@ -11,8 +11,16 @@ use crate::answer::Role;
 pub enum Job {
     /// Reads a GTIRB file and writes it canonically.
     Recode,
+    /// Says whether a module is a program, and how much there is of everything.
+    Check,
+    /// Writes the default layout of a module's program.
+    Layout,
+    /// Links a module's program to an image.
+    Link,
     /// Runs an image and writes its output.
     Run,
+    /// Makes a program of so many blocks and writes it as a GTIRB file.
+    Demo,
 }
 
 /// The name before the `=` of a command word.
@@ -23,7 +31,12 @@ pub enum WordName {
     Layout,
     Input,
     Out,
+    Module,
+    Plain,
+    Isa,
     Steps,
+    Seed,
+    Blocks,
 }
 
 /// The least and the most of a number, and what it is where no word gives it.
@@ -41,13 +54,50 @@ pub enum Kind {
     File,
     /// A number, in decimal digits.
     Number(Bounds),
+    /// `*`, or numbers of flags with commas between them.
+    Flags,
 }
+
+/// The ordinal of a module.
+pub const MODULE: Bounds = Bounds {
+    least: 0,
+    most: 4_294_967_295,
+    unsaid: 0,
+};
+
+/// GTIRB's number of the instruction set of a module; 7 is ARM64.
+pub const ISA: Bounds = Bounds {
+    least: 0,
+    most: 2_147_483_647,
+    unsaid: 7,
+};
+
+/// A flag of an expression.
+pub const FLAG: Bounds = Bounds {
+    least: 0,
+    most: 2_147_483_647,
+    unsaid: 0,
+};
 
 /// The steps of a run.
 pub const STEPS: Bounds = Bounds {
     least: 0,
     most: 10_000_000,
     unsaid: 1_000_000,
+};
+
+/// Where the constants of a generated program begin.
+pub const SEED: Bounds = Bounds {
+    least: 0,
+    most: 4_294_967_295,
+    unsaid: 0,
+};
+
+/// The blocks of a generated program that add a constant.
+pub const BLOCKS: Bounds = Bounds {
+    least: 1,
+    most: 100_000,
+    unsaid: 1,
 };
 
 /// A job, its word, the names that it requires, and those that it may have.
@@ -57,24 +107,58 @@ type JobRow = (Job, &'static str, &'static [WordName], &'static [WordName]);
 pub type NameRow = (WordName, &'static str, Kind);
 
 /// The jobs.
-pub const JOBS: [JobRow; 2] = [
+pub const JOBS: [JobRow; 6] = [
     (Job::Recode, "recode", &[WordName::In, WordName::Out], &[]),
+    (
+        Job::Check,
+        "check",
+        &[WordName::In],
+        &[WordName::Module, WordName::Plain, WordName::Isa],
+    ),
+    (
+        Job::Layout,
+        "layout",
+        &[WordName::In, WordName::Out],
+        &[WordName::Module, WordName::Plain, WordName::Isa],
+    ),
+    (
+        Job::Link,
+        "link",
+        &[WordName::In, WordName::Out],
+        &[
+            WordName::Module,
+            WordName::Plain,
+            WordName::Isa,
+            WordName::Layout,
+        ],
+    ),
     (
         Job::Run,
         "run",
         &[WordName::In, WordName::Out],
         &[WordName::Input, WordName::Steps],
     ),
+    (
+        Job::Demo,
+        "demo",
+        &[WordName::Seed, WordName::Blocks, WordName::Out],
+        &[],
+    ),
 ];
 
 /// The names.
-pub const NAMES: [NameRow; 6] = [
+pub const NAMES: [NameRow; 11] = [
     (WordName::In, "in", Kind::File),
     (WordName::Patch, "patch", Kind::File),
     (WordName::Layout, "layout", Kind::File),
     (WordName::Input, "input", Kind::File),
     (WordName::Out, "out", Kind::File),
+    (WordName::Module, "module", Kind::Number(MODULE)),
+    (WordName::Plain, "plain", Kind::Flags),
+    (WordName::Isa, "isa", Kind::Number(ISA)),
     (WordName::Steps, "steps", Kind::Number(STEPS)),
+    (WordName::Seed, "seed", Kind::Number(SEED)),
+    (WordName::Blocks, "blocks", Kind::Number(BLOCKS)),
 ];
 
 /// The first row with this word.

@@ -5,7 +5,8 @@ ghost use Rattle.gt_front.specs.Picked.{picked, picked_view, settings_of, number
 ghost use Rattle.gt_front.specs.Numbers.{IsWithin};
 
 use crate::answer::Role;
-use crate::table::{Bounds, Job, Kind, STEPS, WordName};
+use crate::number::are_flags;
+use crate::table::{BLOCKS, Bounds, ISA, Job, Kind, MODULE, SEED, STEPS, WordName};
 use gr_base::Text;
 
 impl Kind {
@@ -16,6 +17,7 @@ impl Kind {
         match self {
             Kind::File => !value.is_empty() && value.len() <= 4096,
             Kind::Number(bounds) => bounds.number(value).is_some(),
+            Kind::Flags => are_flags(value),
         }
     }
 }
@@ -103,8 +105,16 @@ fn lacks_any(job: Job, words: &[Text]) -> bool
 /// What the words of a job say that names no file.
 #[derive(Clone, Copy, Debug)]
 pub struct Settings {
+    /// The ordinal of the module.
+    pub ordinal: u64,
+    /// GTIRB's number of the instruction set that the module must have.
+    pub isa: u64,
     /// The most steps of a run.
     pub steps: u64,
+    /// Where the constants of a generated program begin.
+    pub seed: u64,
+    /// The blocks of a generated program that add a constant.
+    pub blocks: u64,
 }
 
 /// What a well-formed list of words asks for.
@@ -122,6 +132,13 @@ impl<'a> Picked<'a> {
         ensures { option_map (λ name. name.now) result ≡ (picked_view self.now).file role }
     {
         value_in(role.word(), self.words)
+    }
+
+    /// What a word says of the flags that are plain, if there is one.
+    pub fn plain(&self) -> Option<&'a str>
+        ensures { option_map (λ text. text.now) result ≡ (picked_view self.now).plain }
+    {
+        value_in(WordName::Plain, self.words)
     }
 
     /// The name of the file that is written, if a word gives it.
@@ -153,7 +170,11 @@ fn settings_in(words: &[Text]) -> Settings
     ensures bounds { InBounds result }
 {
     Settings {
+        ordinal: number_in(WordName::Module, MODULE, words),
+        isa: number_in(WordName::Isa, ISA, words),
         steps: number_in(WordName::Steps, STEPS, words),
+        seed: number_in(WordName::Seed, SEED, words),
+        blocks: number_in(WordName::Blocks, BLOCKS, words),
     }
 }
 

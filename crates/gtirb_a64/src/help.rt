@@ -6,8 +6,18 @@ Each job reads the files that its words name and writes one. The name - is stand
 
   recode in=FILE out=FILE
       read a GTIRB file and write it in its one canonical spelling
+  check in=FILE [module=N] [plain=*] [plain=N,N..] [isa=N]
+      say whether a module of a GTIRB file is a program, and how much there is of everything, or the
+      first thing that is wrong with it; plain= names the flags of expressions that change nothing
+  layout in=FILE out=FILE [module=N] [plain=..] [isa=N]
+      write the default layout of a module's program: where its byte intervals and the stack lie
+  link in=FILE out=IMAGE [layout=FILE] [module=N] [plain=..] [isa=N]
+      link a module's program to a bare image, under a layout or the default one
   run in=IMAGE out=FILE [input=FILE] [steps=N]
       run a bare image for at most N instructions (1,000,000 unless said) and write its output
+  demo seed=N blocks=N out=FILE
+      make a program of so many blocks (1 to 100,000) that add constants, which begin at the seed, and
+      write it as a GTIRB file
 
 gtirb_a64 --help prints this, gtirb_a64 --version the version. The answer goes to standard error as
 one line; README.md, \"Answers and exit statuses\", explains it and each status.

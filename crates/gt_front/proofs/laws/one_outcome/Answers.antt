@@ -1,5 +1,7 @@
-use Rattle.gt_front.proofs.Outcomes.{outcome_one}
+use Rattle.gt_front.proofs.Outcomes.{outcome_one, laid_text_one}
 use Rattle.gt_front.proofs.laws.one_outcome.Goals as goal
 
 pub returns : goal.returns
-returns c = outcome_one c.one_meaning.ensures c.one_spelling.ensures.image c.image_or_fault.ensures.one
+returns c =
+    outcome_one c.one_meaning.ensures c.one_spelling.ensures.image c.image_or_fault.ensures.one
+    (laid_text_one c.one_layout_or_fault.ensures.layout c.one_layout_or_fault.ensures.fault c.one_layout_or_fault.ensures.apart)

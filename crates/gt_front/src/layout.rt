@@ -1,0 +1,61 @@
+ghost use Rattle.std.specs.Prelude.{◌≡◌, IfOk};
+ghost use Rattle.aux_types.specs.Gives.{Gives};
+ghost use Rattle.gt_model.specs.Ordered.{ordered};
+ghost use Rattle.gt_model.specs.Typed.{typed};
+ghost use Rattle.layout_plan.specs.Text.{spelling};
+ghost use Rattle.sym_expr.specs.Layouts.{default_of};
+ghost use Rattle.sym_expr.specs.Placing.{shape_of};
+ghost use Rattle.sym_expr.specs.WellMade.{well_made};
+ghost use Rattle.gt_front.specs.Modules.{layout_made, Lays};
+ghost use Rattle.gt_front.specs.Picked.{picked_view, InBounds};
+ghost use Rattle.gt_front.specs.Reads.{contents_view};
+ghost use Rattle.gt_front.specs.Recode.{written};
+ghost use Rattle.gt_front.specs.Stages.{Answers};
+
+use crate::answer::Role;
+use crate::inputs::Contents;
+use crate::program::load_program;
+use crate::recode::written;
+use crate::stages::read_ir;
+use crate::verdict::{Finished, Refusal};
+use crate::words::Picked;
+use gr_base::End;
+use gt_model::Ir;
+use layout_plan::{default_layout, print_layout, program_shape};
+use std::alloc::{AllocError, Global};
+use sym_expr::Program;
+
+/// The default layout of a program, as it is written.
+fn default_text(alloc: Global, program: &Program) -> Result<Finished, AllocError>
+    requires { well_made program.now }
+    ensures { IfOk result (λ made. made ≡ written (spelling (default_of (shape_of program.now)))) }
+{
+    let shape = program_shape(alloc, program)?;
+    let layout = default_layout(alloc, &shape)?;
+    let text = print_layout(alloc, &layout)?;
+    written(alloc, text)
+}
+
+/// The default layout of the module that the words ask for.
+fn layout_ir(alloc: Global, asked: &Picked<'_>, ir: &Ir) -> Result<Finished, End<Refusal>>
+    requires bounds { InBounds asked.now.settings }
+    requires order { ordered ir.now }
+    requires values { typed ir.now }
+    ensures { Gives (λ made. made) result (layout_made (picked_view asked.now) ir.now) }
+{
+    let program = load_program(alloc, asked, ir)?;
+    Ok(default_text(alloc, &program)?)
+}
+
+/// Writes the default layout of a module's program.
+pub fn layout(
+    alloc: Global,
+    asked: &Picked<'_>,
+    contents: &Contents,
+) -> Result<Finished, End<Refusal>>
+    requires { InBounds asked.now.settings }
+    ensures { Answers (Lays (picked_view asked.now) (contents_view contents.now)) result }
+{
+    let ir = read_ir(alloc, contents.bytes(Role::In))?;
+    layout_ir(alloc, asked, &ir)
+}

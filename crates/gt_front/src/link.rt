@@ -1,0 +1,132 @@
+ghost use Rattle.std.specs.Prelude.{◌≡◌, IfOk, OnOk};
+ghost use Rattle.aux_types.specs.Gives.{Gives};
+ghost use Rattle.gt_model.specs.Ordered.{ordered};
+ghost use Rattle.gt_model.specs.Typed.{typed};
+ghost use Rattle.sym_expr.specs.Layouts.{accepted, IsStackSize};
+ghost use Rattle.sym_expr.specs.Placing.{shape_of};
+ghost use Rattle.sym_expr.specs.Shapes.{IsShape};
+ghost use Rattle.sym_expr.specs.WellMade.{well_made};
+ghost use Rattle.gt_front.specs.Modules.{accepted_layout, laid, link_made, linked_image, LinksProgram, LinksIr, Links};
+ghost use Rattle.gt_front.specs.Picked.{picked_view, InBounds};
+ghost use Rattle.gt_front.specs.Reads.{contents_view};
+ghost use Rattle.gt_front.specs.Stages.{Answers};
+
+use crate::answer::Role;
+use crate::inputs::Contents;
+use crate::program::load_program;
+use crate::recode::written;
+use crate::stages::read_ir;
+use crate::verdict::{Finished, Refusal};
+use crate::words::Picked;
+use bare_image::write_image;
+use gr_base::{Bytes, End};
+use gt_model::Ir;
+use layout_plan::{check_layout, default_layout, program_shape, read_layout};
+use link_image::link_program;
+use std::alloc::Global;
+use sym_expr::{Layout, Program, Shape};
+
+/// The layout that a text gives, or the default one where there is none.
+fn laid(alloc: Global, text: &Option<Bytes>, shape: &Shape) -> Result<Layout, End<Refusal>>
+    requires { IsShape shape.now }
+    ensures stage { Answers (laid text.now shape.now) result }
+    ensures stack_size { IfOk result (λ layout. IsStackSize layout.stack_size) }
+{
+    let Some(text) = text else {
+        return Ok(default_layout(alloc, shape)?);
+    };
+    match read_layout(alloc, text.as_slice()) {
+        Ok(layout) => Ok(layout),
+        Err(End::Fault(fault)) => Err(End::Fault(Refusal::Layout(fault))),
+        Err(End::Memory) => Err(End::Memory),
+    }
+}
+
+/// Whether the layout is accepted.
+fn accepted(alloc: Global, layout: &Layout, shape: &Shape) -> Result<(), End<Refusal>>
+    requires stack_size { IsStackSize layout.now.stack_size }
+    requires shape { IsShape shape.now }
+    ensures made { Gives (λ _. layout.now) result (accepted_layout layout.now shape.now) }
+    ensures accepted { OnOk result (accepted layout.now shape.now) }
+{
+    match check_layout(alloc, layout, shape) {
+        Ok(()) => Ok(()),
+        Err(End::Fault(fault)) => Err(End::Fault(Refusal::Layout(fault))),
+        Err(End::Memory) => Err(End::Memory),
+    }
+}
+
+/// The image of a program under a layout that suits it, as it is written.
+fn linked_image(alloc: Global, program: &Program, layout: &Layout) -> Result<Finished, End<Refusal>>
+    requires well { well_made program.now }
+    requires accepted { accepted layout.now (shape_of program.now) }
+    ensures { Gives (λ made. made) result (linked_image program.now layout.now) }
+{
+    let image = match link_program(alloc, program, layout) {
+        Ok(image) => image,
+        Err(End::Fault(fault)) => return Err(End::Fault(Refusal::Link(fault))),
+        Err(End::Memory) => return Err(End::Memory),
+    };
+    let bytes = write_image(alloc, &image)?;
+    Ok(written(alloc, bytes)?)
+}
+
+/// The image of a program under a layout, where it is accepted.
+fn linked(
+    alloc: Global,
+    program: &Program,
+    shape: &Shape,
+    layout: &Layout,
+) -> Result<Finished, End<Refusal>>
+    requires well { well_made program.now }
+    requires shape { shape.now ≡ shape_of program.now }
+    requires spots { IsShape shape.now }
+    requires stack_size { IsStackSize layout.now.stack_size }
+    ensures { Gives (λ made. made) result (link_made program.now layout.now) }
+{
+    accepted(alloc, layout, shape)?;
+    linked_image(alloc, program, layout)
+}
+
+/// The image of a program under the layout of a text, or else the default one.
+fn link_under(
+    alloc: Global,
+    program: &Program,
+    text: &Option<Bytes>,
+) -> Result<Finished, End<Refusal>>
+    requires { well_made program.now }
+    ensures { Answers (LinksProgram text.now program.now) result }
+{
+    let shape = program_shape(alloc, program)?;
+    let layout = laid(alloc, text, &shape)?;
+    linked(alloc, program, &shape, &layout)
+}
+
+/// The image of the module that the words ask for.
+fn link_ir(
+    alloc: Global,
+    asked: &Picked<'_>,
+    ir: &Ir,
+    text: &Option<Bytes>,
+) -> Result<Finished, End<Refusal>>
+    requires bounds { InBounds asked.now.settings }
+    requires order { ordered ir.now }
+    requires values { typed ir.now }
+    ensures { Answers (LinksIr (picked_view asked.now) text.now ir.now) result }
+{
+    let program = load_program(alloc, asked, ir)?;
+    link_under(alloc, &program, text)
+}
+
+/// Links a module's program to an image.
+pub fn link(
+    alloc: Global,
+    asked: &Picked<'_>,
+    contents: &Contents,
+) -> Result<Finished, End<Refusal>>
+    requires { InBounds asked.now.settings }
+    ensures { Answers (Links (picked_view asked.now) (contents_view contents.now)) result }
+{
+    let ir = read_ir(alloc, contents.bytes(Role::In))?;
+    link_ir(alloc, asked, &ir, contents.of(Role::Layout))
+}
