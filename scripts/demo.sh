@@ -1,30 +1,49 @@
 #!/usr/bin/env bash
 # Builds the program without waiting for proofs and runs each job on the bundled examples: what a job writes
-# is shown, then the line that it answers. Ends with 1 where a job doesn't answer as listed below.
+# is shown, then the line that it answers. What `link` makes is run, and must write what the C program wrote.
+# Ends with 1 where a job doesn't answer as listed below.
 set -u
 cd "$(dirname "$0")/../crates/gtirb_a64" || exit 1
 command -v rt >/dev/null || { echo "demo: the Rattle kit's rt is not on the path"; exit 1; }
 work=$(mktemp -d) || exit 1
 trap 'rm -rf "$work"' EXIT
+examples=$PWD/../../examples
+mkdir "$work/images"
 
-# Each job's examples, with the exit status and the line that it answers.
+# A job's words, the folder whose files it takes one by one from standard input, and each file with the exit
+# status and the line that is answered.
+jobs='recode in=- out=-|recode
+check in=- plain=*|programs
+layout in=- out=- plain=*|programs
+link in=- out=- plain=*|programs
+run in=- out=-|run
+sim in=- out=- plain=*|programs'
 answers='
 recode exit_three.gtirb 0 done bytes=354
 recode smallest.gtirb 0 done bytes=28
 recode two_versions.gtirb 7 format: version 4 and 3
-run exit_three.image 0 steps=3 exit 3
-run hello.image 0 steps=8 exit 0
+check exit_three.gtirb 0 ok sections=1 intervals=1 blocks=2 symbols=1 exprs=1 edges=1 tables=0 opaque=0
 check checksum_o1.gtirb 0 ok sections=5 intervals=5 blocks=222 symbols=126 exprs=216 edges=314 tables=5 opaque=0
+check checksum_os.gtirb 0 ok sections=6 intervals=6 blocks=198 symbols=115 exprs=185 edges=274 tables=5 opaque=0
 layout exit_three.gtirb 0 done bytes=73
 link exit_three.gtirb 0 done bytes=72
+link checksum_o1.gtirb 0 done bytes=4324
+run exit_three.image 0 steps=3 exit 3
+run hello.image 0 steps=8 exit 0
+sim exit_three.gtirb 0 steps=3 exit 3
+sim checksum_o1.gtirb 0 steps=23708 exit 0
+sim checksum_os.gtirb 0 steps=22145 exit 0
+linked exit_three.gtirb 0 steps=3 exit 3
+linked checksum_o1.gtirb 0 steps=23708 exit 0
+linked checksum_os.gtirb 0 steps=22145 exit 0
 '
-jobs=$(awk 'NF { print $1 }' <<<"$answers" | sort -u)
 
-# Runs a job on each file of its folder of examples, from standard input to standard output.
+# Does a job with each file of a folder: name, words, folder.
 job() {
-    local out=out=-
-    [ "$1" = check ] && out=
-    rt try --cases "../../examples/$1" -- "$1" in=- $out >"$work/$1" 2>&1
+    local name=$1 folder=$3
+    local -a words
+    read -ra words <<<"$2"
+    rt try --cases "$folder" -- "${words[@]}" >"$work/$name" 2>&1
 }
 
 # The line before that of a case, and the case's status.
@@ -32,14 +51,29 @@ answered() {
     LC_ALL=C awk -v name="$2" 'index($0, "case=" name " ") == 1 { sub("status=", "", $3); print $3 " " last } { last = $0 }' "$work/$1"
 }
 
-# The jobs are built side by side.
-for name in $jobs; do job "$name" & done
-wait
-for name in $jobs; do
-    echo "\$ gtirb_a64 $name    on each file of examples/$name"
-    grep -av '^cases=\|^rt:' "$work/$name" | cat -v
+# The images that `link` wrote, each as a file of its own, cut out by their mark and their length.
+keep_images() {
+    local start name length
+    paste -d ' ' <(LC_ALL=C grep -abo GRIMG001 "$work/link" | cut -d: -f1) \
+        <(LC_ALL=C awk 'index($0, "case=") == 1 { sub("case=", "", $1); sub(".*done bytes=", "", last); print $1, last } { last = $0 }' "$work/link") |
+        while read -r start name length; do
+            tail -c +"$((start + 1))" "$work/link" | head -c "$length" >"$work/images/$name"
+        done
+}
+
+show() {
+    echo "\$ gtirb_a64 $2    on each file of $3"
+    grep -av '^cases=\|^rt:' "$work/$1" | cat -v
     echo
-done
+}
+
+# The jobs are built side by side.
+while IFS='|' read -r words folder; do job "${words%% *}" "$words" "$examples/$folder" & done <<<"$jobs"
+wait
+while IFS='|' read -r words folder; do show "${words%% *}" "$words" "examples/$folder"; done <<<"$jobs"
+keep_images
+job linked "run in=- out=-" "$work/images"
+show linked "run in=- out=-" "what link wrote"
 
 status=0
 while read -r name file answer; do
@@ -49,4 +83,10 @@ while read -r name file answer; do
         status=1
     fi
 done <<<"$answers"
+for output in "$examples"/outputs/*; do
+    if ! grep -aqxFf "$output" "$work/linked"; then
+        echo "demo: no image writes what $(basename "$output") has"
+        status=1
+    fi
+done
 exit "$status"

@@ -46,11 +46,11 @@ first_or {X = X} test P y ys x h true same rest f = let Q : X → Type 0 = λ z.
 first_or test P y ys x h false same rest f = rest f
 
 -- what is found passes, and is one of them
-found_one : {X : Type 0} (test : X → Bool) (P : X → Type 0) (xs : List X) (x : X) → Every P xs → find test xs ≡ Some x → (test x ≡ true) × P x
+pub found_one : {X : Type 0} (test : X → Bool) (P : X → Type 0) (xs : List X) (x : X) → Every P xs → find test xs ≡ Some x → (test x ≡ true) × P x
 found_one test P [] x h e = absurd (none-some x e)
 found_one test P (y ∷ ys) x h e = first_or test P y ys x h.0 (test y) refl (λ f. found_one test P ys x h.1 f) e
 
-entry_of : (o : Option KindWords) (kind : Kind) → option_map (λ (words : KindWords). words.kind) o ≡ Some kind → (words : KindWords) × (o ≡ Some words) × (words.kind ≡ kind)
+pub entry_of : (o : Option KindWords) (kind : Kind) → option_map (λ (words : KindWords). words.kind) o ≡ Some kind → (words : KindWords) × (o ≡ Some words) × (words.kind ≡ kind)
 entry_of None kind e = absurd (none-some kind e)
 entry_of (Some words) kind e = (words, refl, some_is words.kind kind e)
 

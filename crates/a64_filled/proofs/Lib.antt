@@ -4,3 +4,4 @@ mod Kept
 mod Each
 mod Fitted
 mod Naming
+mod Taking

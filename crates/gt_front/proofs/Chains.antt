@@ -123,3 +123,8 @@ pub chain_goes : {S T : Type 0} (first : Stage S) (next : S → Stage T) (mid : 
 chain_goes first next mid (Ok value) h k = (mid, h, k)
 chain_goes first next mid (Err (ends.Fault refusal)) h k = inr (mid, h, k)
 chain_goes first next mid (Err ends.Memory) h k = tt
+
+-- what follows from what holds of a call that is Ok
+pub on_ok_map : {T E A B : Type 0} (r : Result T E) → (A → B) → OnOk r A → OnOk r B
+on_ok_map (Ok x) f a = f a
+on_ok_map (Err e) f a = tt

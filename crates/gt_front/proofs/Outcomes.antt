@@ -13,7 +13,7 @@ use Rattle.num_run.specs.Run.{num_run}
 use Rattle.gt_front.specs.declared.answer.Role.{Role}
 use Rattle.gt_front.specs.declared.answer.Role.TheVariants.{In, Input}
 use Rattle.gt_front.specs.declared.table.Job.{Job}
-use Rattle.gt_front.specs.declared.table.Job.TheVariants.{Recode, Check, Layout, Link, Run, Demo}
+use Rattle.gt_front.specs.declared.table.Job.TheVariants.{Recode, Check, Layout, Link, Run, Sim, Demo}
 use Rattle.gt_front.specs.Inputs.{AllHeld, Contents, HoldBytes, bytes_in, contents_of, inputs_of}
 use Rattle.gt_front.specs.Outcome.{Pass, Outcome, Verdict, makes_as}
 use Rattle.gt_front.specs.Picked.{Picked, asked, picked, settings_of}
@@ -31,7 +31,9 @@ use Rattle.sym_expr.specs.Placing.{shape_of}
 use Rattle.gt_front.specs.declared.answer.Role.TheVariants as roles
 use Rattle.gt_front.specs.declared.verdict.Refusal.TheVariants as refusals
 use Rattle.gt_front.specs.Demo.{demo_made}
-use Rattle.gt_front.specs.Modules.{check_made, layout_made, link_made, program_module, program_in, laid, laid_text}
+use Rattle.module_program.specs.Graphs.{program_in}
+use Rattle.gt_front.specs.Modules.{check_made, layout_made, link_made, program_module, laid, laid_text}
+use Rattle.gt_front.specs.Sim.{sim_made}
 use Rattle.gt_front.proofs.Binding.{exactly_one, exactly_some}
 use Rattle.gt_front.proofs.Chains.{chain_one, just_one, meant_one, imaged_one, chain_some, just_some, meant_some, imaged_some}
 
@@ -83,6 +85,13 @@ module _ (meaning : (bytes : List ℕ) (a b : Ir) → file bytes a → file byte
       let report : AnImage → _ = λ x. reported (num_run x (bytes_in contents Input) asked.settings.steps) in
       chain_one (imaged (bytes_in contents In)) (λ x. just (report x))
       (imaged_one image fault (bytes_in contents In)) (λ x. just_one (report x))
+  makes_one Sim asked passes contents =
+      let linked : Module → ALayout → _ = λ m layout. exactly (sim_made (program_in m) layout (bytes_in contents Input) asked.settings.steps) in
+      let placed : Module → Stage ALayout = λ m. laid (contents roles.Layout) (shape_of (program_in m)) in
+      chain_one (meant (bytes_in contents In)) (λ ir. chain (exactly (program_module asked ir)) (λ m. chain (placed m) (linked m)))
+      (meant_one meaning (bytes_in contents In)) (λ ir.
+      chain_one (exactly (program_module asked ir)) (λ m. chain (placed m) (linked m)) (exactly_one (program_module asked ir)) (λ m.
+      chain_one (placed m) (linked m) (laid_one texts (contents roles.Layout) (shape_of (program_in m))) (λ layout. exactly_one (sim_made (program_in m) layout (bytes_in contents Input) asked.settings.steps))))
   makes_one Demo asked passes contents = exactly_one (demo_made asked.settings.seed asked.settings.blocks)
 
   pub outcome_one : (asked : Option Picked) (passes : List Pass) (files : Files) (a b : Verdict) → Outcome asked passes files a → Outcome asked passes files b → a ≡ b
@@ -120,6 +129,13 @@ module _ (found : (bytes : List ℕ) → format_fault bytes ≡ None → (ir : I
       let report : AnImage → _ = λ x. reported (num_run x (bytes_in contents Input) asked.settings.steps) in
       chain_some (imaged (bytes_in contents In)) (λ x. just (report x))
       (imaged_some some apart (bytes_in contents In) (are In)) (λ x h. just_some (report x))
+  makes_some Sim asked passes contents are =
+      let linked : Module → ALayout → _ = λ m layout. exactly (sim_made (program_in m) layout (bytes_in contents Input) asked.settings.steps) in
+      let placed : Module → Stage ALayout = λ m. laid (contents roles.Layout) (shape_of (program_in m)) in
+      chain_some (meant (bytes_in contents In)) (λ ir. chain (exactly (program_module asked ir)) (λ m. chain (placed m) (linked m)))
+      (meant_some found excluded (bytes_in contents In)) (λ ir h.
+      chain_some (exactly (program_module asked ir)) (λ m. chain (placed m) (linked m)) (exactly_some (program_module asked ir)) (λ m k.
+      chain_some (placed m) (linked m) (laid_some (contents roles.Layout) (shape_of (program_in m))) (λ layout l. exactly_some (sim_made (program_in m) layout (bytes_in contents Input) asked.settings.steps))))
   makes_some Demo asked passes contents are = exactly_some (demo_made asked.settings.seed asked.settings.blocks)
 
   -- the contents of files that hold bytes are bytes

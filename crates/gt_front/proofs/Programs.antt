@@ -20,14 +20,7 @@ use Rattle.ir_check.specs.Faults.{check_fault}
 use Rattle.ir_check.specs.Report.{checked, report_of, unless as reported}
 use Rattle.node_arena.specs.Checking as arena
 use Rattle.sym_expr.specs.Linkable.{formed, linkable}
-use Rattle.sym_expr.specs.declared.patches.Function.{Function}
-use Rattle.sym_expr.specs.declared.patches.Insert.{Insert}
-use Rattle.sym_expr.specs.declared.patches.PatchTable.{PatchTable}
 use Rattle.sym_expr.specs.declared.program.Program.{Program}
-use Rattle.sym_expr.specs.Patches.{no_patches}
-use Rattle.sym_expr.specs.Program.{program}
-use Rattle.sym_expr.specs.Tables.{Tables}
-use Rattle.sym_expr.specs.WellMade.{well_made}
 use Rattle.sym_expr.specs.Modules.{intervals_of, is_loaded, loaded_intervals, loaded_sections}
 use Rattle.gt_front.specs.declared.verdict.Refusal.{Refusal}
 use Rattle.gt_front.specs.declared.verdict.Refusal.TheVariants.{Check}
@@ -118,14 +111,7 @@ linkable_formed ir m l few =
       few = omega arith;
     }
 
--- its program without patches can be laid out and linked
-pub well_of : {E : Type 0} (ir : Ir) (m : Module) (p : PatchTable) → ((ir : Ir) (m : Module) (t : Tables) → formed ir m t → well_made (program m t no_patches))
-    → formed ir m (tables_of m) → p ≡ no_patches → (r : Result Program E) → IfOk r (λ g. g ≡ program m (tables_of m) p) → IfOk r well_made
-well_of ir m p law its none (Ok g) same = subst well_made (sym (same ∙ ap (program m (tables_of m)) none)) (law ir m (tables_of m) its)
-well_of ir m p law its none (Err e) same = tt
-
-abbrev pub patches_of : List Insert → List Function → PatchTable
-patches_of inserts functions = record { inserts = inserts; functions = functions }
-
-pub none_at_all : (inserts : List Insert) (functions : List Function) → inserts ≡ [] → functions ≡ [] → patches_of inserts functions ≡ no_patches
-none_at_all inserts functions a b = ap (λ (x : List Insert). patches_of x functions) a ∙ ap (λ (x : List Function). patches_of [] x) b
+-- what holds of the program that a call gives
+pub given_by : {E : Type 0} (P : Program → Type 0) {p : Program} → P p → (r : Result Program E) → IfOk r (λ g. g ≡ p) → IfOk r P
+given_by P its (Ok g) same = subst P (sym same) its
+given_by P its (Err e) same = tt

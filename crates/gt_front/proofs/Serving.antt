@@ -52,8 +52,8 @@ module _ (asked : Picked) (d : Around) (c : declared.Contents) (all : Told d.old
     makes = subst (λ (k : Contents). makes asked [] k verdict) (λ i role. h role i) m;
   }) all holds
 
-  promised_is : Promises asked.job (contents_view c) → Told d.old (Promised (Some asked))
-  promised_is k = told_map d.old _ _ (λ held h. subst (λ (x : Contents). Promises asked.job x) (λ i role. h role i) k) holds
+  promised_is : Promises asked (contents_view c) → Told d.old (Promised (Some asked))
+  promised_is k = told_map d.old _ _ (λ held h. subst (λ (x : Contents). Promises asked x) (λ i role. h role i) k) holds
 
   pub serves_refused : (refusal : Refusal) → makes asked [] (contents_view c) (Err refusal) → ToldBoth d.old d.new SameFiles
       → Served (Some asked) [] d (answer_of refusal)
@@ -62,7 +62,7 @@ module _ (asked : Picked) (d : Around) (c : declared.Contents) (all : Told d.old
   module _ (mid : Option Files) (mid_steady : Bool) (mid_write : ℕ) (same : ToldBoth d.old mid SameFiles) (steady : mid_steady ≡ d.steady)
       (later : d.write_before ≤ mid_write) (finished : Finished) (made : makes asked [] (contents_view c) (Ok finished))
       (name : Option (List ℕ)) (named : name ≡ asked.out) where
-    pub serves_done : (text : List ℕ) → Promises asked.job (contents_view c) → Writes name finished mid_steady mid_write d.write_now mid d.new (Ok text)
+    pub serves_done : (text : List ℕ) → Promises asked (contents_view c) → Writes name finished mid_steady mid_write d.write_now mid d.new (Ok text)
         → Served (Some asked) [] d (Done text)
     serves_done text keeps w =
         let at_name = subst (λ (n : Option (List ℕ)). ToldBoth mid d.new (Wrote n finished.out)) named w.1 in

@@ -9,6 +9,8 @@ pub mod Stages
 pub mod Recode
 pub mod Run
 pub mod Modules
+pub mod Simulated
+pub mod Sim
 pub mod Demo
 pub mod Outcome
 pub mod Causes

@@ -2,7 +2,6 @@
 use Rattle.std.specs.Prelude.{◌≡◌, ℕ, pos, List, [], ◌++◌, codes, length, slice_get, if◌then◌else◌, Option, None, Some, Result, Ok, Err}
 use Rattle.std.specs.Option.{option_map, option_map_or}
 use Rattle.std.specs.Fmt.{decimal}
-use Rattle.aux_tables.specs.ModuleTables.{tables_of}
 use Rattle.aux_types.specs.Gives.{◌>>=◌}
 use Rattle.bare_image.specs.Spelling as images
 use Rattle.gt_model.specs.declared.ir.Ir.{Ir}
@@ -17,6 +16,7 @@ use Rattle.ir_check.specs.Report.{report_of}
 use Rattle.layout_plan.specs.declared.fault.LayoutFault.TheVariants.{Line}
 use Rattle.layout_plan.specs.Faults.{layout_fault}
 use Rattle.layout_plan.specs.Text.{layout_text, text_fault, spelling}
+use Rattle.module_program.specs.Graphs.{program_in}
 use Rattle.node_arena.specs.Checking as arena
 use Rattle.node_arena.specs.declared.fault.CheckFault.TheVariants.{NoModule}
 use Rattle.sym_expr.specs.declared.layout.Layout.{Layout as ALayout}
@@ -24,9 +24,7 @@ use Rattle.sym_expr.specs.declared.program.Program.{Program}
 use Rattle.sym_expr.specs.declared.shape.Shape.{Shape}
 use Rattle.sym_expr.specs.Images.{image, link_fault}
 use Rattle.sym_expr.specs.Layouts.{default_of}
-use Rattle.sym_expr.specs.Patches.{no_patches}
 use Rattle.sym_expr.specs.Placing.{shape_of}
-use Rattle.sym_expr.specs.Program.{program}
 use Rattle.gt_front.specs.declared.answer.Role.TheVariants as roles
 use Rattle.gt_front.specs.declared.verdict.Finished.{Finished}
 use Rattle.gt_front.specs.declared.verdict.Refusal.{Refusal}
@@ -93,10 +91,6 @@ check_made asked ir = program_module asked ir >>= (λ m. Ok (told (report_of ir 
 
 abbrev pub Checks : Picked → Contents → Stage Finished
 Checks asked contents = chain (meant (bytes_in contents roles.In)) (λ ir. exactly (check_made asked ir))
-
--- the program of a module
-abbrev pub program_in : Module → Program
-program_in m = program m (tables_of m) no_patches
 
 -- the program of the module that is asked for
 abbrev pub program_made : Picked → Ir → Result Program Refusal

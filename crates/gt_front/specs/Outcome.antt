@@ -3,7 +3,7 @@ use Rattle.std.specs.Prelude.{ℕ, List, Option, Some, None, Result}
 use Rattle.gr_base.specs.Desk.{Files}
 use Rattle.gt_front.specs.declared.answer.TheConstants.{ROLES}
 use Rattle.gt_front.specs.declared.table.Job.{Job}
-use Rattle.gt_front.specs.declared.table.Job.TheVariants.{Recode, Check, Layout, Link, Run, Demo}
+use Rattle.gt_front.specs.declared.table.Job.TheVariants.{Recode, Check, Layout, Link, Run, Sim, Demo}
 use Rattle.gt_front.specs.declared.verdict.Finished.{Finished}
 use Rattle.gt_front.specs.declared.verdict.Refusal.{Refusal}
 use Rattle.gt_front.specs.Inputs.{Contents, AllHeld, files_as, contents_of}
@@ -12,6 +12,8 @@ use Rattle.gt_front.specs.Stages.{Stage}
 use Rattle.gt_front.specs.Recode.{Recodes, ReadsBack}
 use Rattle.gt_front.specs.Run.{Runs}
 use Rattle.gt_front.specs.Modules.{Checks, Lays, Links}
+use Rattle.gt_front.specs.Simulated.{SimulatesFile}
+use Rattle.gt_front.specs.Sim.{Sims}
 use Rattle.gt_front.specs.Demo.{Demos}
 
 -- a pass that is handed in; no job takes one yet
@@ -29,6 +31,7 @@ makes_as Check asked passes contents = Checks asked contents
 makes_as Layout asked passes contents = Lays asked contents
 makes_as Link asked passes contents = Links asked contents
 makes_as Run asked passes contents = Runs asked.settings contents
+makes_as Sim asked passes contents = Sims asked contents
 makes_as Demo asked passes contents = Demos asked.settings
 
 -- what the job that is asked for makes
@@ -36,9 +39,14 @@ abbrev pub makes : Picked → List Pass → Contents → Stage Finished
 makes asked passes contents = makes_as asked.job asked passes contents
 
 -- what each job promises beside that, where it is done with these contents
-abbrev pub Promises : Job → Contents → Type 0
-Promises Recode contents = ReadsBack contents
-Promises _ contents = Unit {0}
+abbrev pub PromisesAs : Job → Picked → Contents → Type 0
+PromisesAs Recode asked contents = ReadsBack contents
+PromisesAs Link asked contents = SimulatesFile asked contents
+PromisesAs _ asked contents = Unit {0}
+
+-- what the job that is asked for promises
+abbrev pub Promises : Picked → Contents → Type 0
+Promises asked contents = PromisesAs asked.job asked contents
 
 -- a verdict over some files
 abbrev pub Outcomes : Type 1
@@ -57,7 +65,7 @@ Outcome (Some asked) passes files verdict = OutcomeOf asked passes files verdict
 -- what the job that is asked for promises, where it is done
 abbrev pub Promised : Option Picked → Files → Type 0
 Promised None files = Unit {0}
-Promised (Some asked) files = Promises asked.job (contents_of asked files)
+Promised (Some asked) files = Promises asked (contents_of asked files)
 
 -- the name of the file that a job writes, if the words give one
 abbrev pub out_of : Option Picked → Option (List ℕ)

@@ -7,7 +7,7 @@ use Rattle.gt_front.specs.declared.answer.Role.{Role}
 use Rattle.gt_front.specs.declared.answer.Role.TheVariants as roles
 use Rattle.gt_front.specs.declared.table.TheConstants.{JOBS, NAMES}
 use Rattle.gt_front.specs.declared.table.Job.{Job}
-use Rattle.gt_front.specs.declared.table.Job.TheVariants.{Recode, Check, Run, Demo}
+use Rattle.gt_front.specs.declared.table.Job.TheVariants.{Recode, Check, Run, Sim, Demo}
 use Rattle.gt_front.specs.declared.table.Job.TheVariants.{Layout as LayoutJob, Link as LinkJob}
 use Rattle.gt_front.specs.declared.table.Kind.{Kind}
 use Rattle.gt_front.specs.declared.table.WordName.{WordName}
@@ -51,6 +51,7 @@ same_job Check Check = true
 same_job LayoutJob LayoutJob = true
 same_job LinkJob LinkJob = true
 same_job Run Run = true
+same_job Sim Sim = true
 same_job Demo Demo = true
 same_job _ _ = false
 

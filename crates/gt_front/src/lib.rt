@@ -18,6 +18,8 @@ mod program;
 mod recode;
 mod run;
 mod serve;
+mod sim;
+mod sim_state;
 mod stages;
 mod state;
 mod table;

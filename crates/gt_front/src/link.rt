@@ -6,6 +6,8 @@ ghost use Rattle.sym_expr.specs.Layouts.{accepted, IsStackSize};
 ghost use Rattle.sym_expr.specs.Placing.{shape_of};
 ghost use Rattle.sym_expr.specs.Shapes.{IsShape};
 ghost use Rattle.sym_expr.specs.WellMade.{well_made};
+ghost use Rattle.placed_images.specs.Typed.{IsTyped, HasNearEntries};
+ghost use Rattle.gt_front.specs.Simulated.{IsSimulated, SimulatesProgram, SimulatesIr, SimulatesFile};
 ghost use Rattle.gt_front.specs.Modules.{accepted_layout, laid, link_made, linked_image, LinksProgram, LinksIr, Links};
 ghost use Rattle.gt_front.specs.Picked.{picked_view, InBounds};
 ghost use Rattle.gt_front.specs.Reads.{contents_view};
@@ -23,11 +25,12 @@ use gr_base::{Bytes, End};
 use gt_model::Ir;
 use layout_plan::{check_layout, default_layout, program_shape, read_layout};
 use link_image::link_program;
+use placed_images::laws::images_simulate;
 use std::alloc::Global;
 use sym_expr::{Layout, Program, Shape};
 
 /// The layout that a text gives, or the default one where there is none.
-fn laid(alloc: Global, text: &Option<Bytes>, shape: &Shape) -> Result<Layout, End<Refusal>>
+pub fn laid(alloc: Global, text: &Option<Bytes>, shape: &Shape) -> Result<Layout, End<Refusal>>
     requires { IsShape shape.now }
     ensures stage { Answers (laid text.now shape.now) result }
     ensures stack_size { IfOk result (λ layout. IsStackSize layout.stack_size) }
@@ -59,9 +62,13 @@ fn accepted(alloc: Global, layout: &Layout, shape: &Shape) -> Result<(), End<Ref
 /// The image of a program under a layout that suits it, as it is written.
 fn linked_image(alloc: Global, program: &Program, layout: &Layout) -> Result<Finished, End<Refusal>>
     requires well { well_made program.now }
+    requires typed { IsTyped program.now }
+    requires near { HasNearEntries program.now }
     requires accepted { accepted layout.now (shape_of program.now) }
-    ensures { Gives (λ made. made) result (linked_image program.now layout.now) }
+    ensures made { Gives (λ made. made) result (linked_image program.now layout.now) }
+    ensures simulated { OnOk result (IsSimulated program.now layout.now) }
 {
+    images_simulate();
     let image = match link_program(alloc, program, layout) {
         Ok(image) => image,
         Err(End::Fault(fault)) => return Err(End::Fault(Refusal::Link(fault))),
@@ -72,17 +79,20 @@ fn linked_image(alloc: Global, program: &Program, layout: &Layout) -> Result<Fin
 }
 
 /// The image of a program under a layout, where it is accepted.
-fn linked(
+pub fn linked(
     alloc: Global,
     program: &Program,
     shape: &Shape,
     layout: &Layout,
 ) -> Result<Finished, End<Refusal>>
     requires well { well_made program.now }
+    requires typed { IsTyped program.now }
+    requires near { HasNearEntries program.now }
     requires shape { shape.now ≡ shape_of program.now }
     requires spots { IsShape shape.now }
     requires stack_size { IsStackSize layout.now.stack_size }
-    ensures { Gives (λ made. made) result (link_made program.now layout.now) }
+    ensures made { Gives (λ made. made) result (link_made program.now layout.now) }
+    ensures simulated { OnOk result (IsSimulated program.now layout.now) }
 {
     accepted(alloc, layout, shape)?;
     linked_image(alloc, program, layout)
@@ -94,8 +104,11 @@ fn link_under(
     program: &Program,
     text: &Option<Bytes>,
 ) -> Result<Finished, End<Refusal>>
-    requires { well_made program.now }
-    ensures { Answers (LinksProgram text.now program.now) result }
+    requires well { well_made program.now }
+    requires typed { IsTyped program.now }
+    requires near { HasNearEntries program.now }
+    ensures stage { Answers (LinksProgram text.now program.now) result }
+    ensures simulated { OnOk result (SimulatesProgram text.now program.now) }
 {
     let shape = program_shape(alloc, program)?;
     let layout = laid(alloc, text, &shape)?;
@@ -112,7 +125,8 @@ fn link_ir(
     requires bounds { InBounds asked.now.settings }
     requires order { ordered ir.now }
     requires values { typed ir.now }
-    ensures { Answers (LinksIr (picked_view asked.now) text.now ir.now) result }
+    ensures stage { Answers (LinksIr (picked_view asked.now) text.now ir.now) result }
+    ensures simulated { OnOk result (SimulatesIr (picked_view asked.now) text.now ir.now) }
 {
     let program = load_program(alloc, asked, ir)?;
     link_under(alloc, &program, text)
@@ -125,7 +139,8 @@ pub fn link(
     contents: &Contents,
 ) -> Result<Finished, End<Refusal>>
     requires { InBounds asked.now.settings }
-    ensures { Answers (Links (picked_view asked.now) (contents_view contents.now)) result }
+    ensures stage { Answers (Links (picked_view asked.now) (contents_view contents.now)) result }
+    ensures simulated { OnOk result (SimulatesFile (picked_view asked.now) (contents_view contents.now)) }
 {
     let ir = read_ir(alloc, contents.bytes(Role::In))?;
     link_ir(alloc, asked, &ir, contents.of(Role::Layout))

@@ -20,6 +20,7 @@ use crate::link::link;
 use crate::output::write_output;
 use crate::recode::recode;
 use crate::run::run;
+use crate::sim::sim;
 use crate::table::Job;
 use crate::verdict::{Finished, Refusal};
 use crate::words::{Picked, parse_words};
@@ -30,7 +31,7 @@ use std::alloc::Global;
 fn make(alloc: Global, asked: &Picked<'_>, contents: &Contents) -> Result<Finished, End<Refusal>>
     requires { InBounds asked.now.settings }
     ensures stage { Answers (makes (picked_view asked.now) [] (contents_view contents.now)) result }
-    ensures promises { OnOk result (Promises asked.now.job (contents_view contents.now)) }
+    ensures promises { OnOk result (Promises (picked_view asked.now) (contents_view contents.now)) }
 {
     match asked.job {
         Job::Recode => recode(alloc, contents),
@@ -38,6 +39,7 @@ fn make(alloc: Global, asked: &Picked<'_>, contents: &Contents) -> Result<Finish
         Job::Layout => layout(alloc, asked, contents),
         Job::Link => link(alloc, asked, contents),
         Job::Run => run(alloc, asked.settings, contents),
+        Job::Sim => sim(alloc, asked, contents),
         Job::Demo => demo(alloc, asked.settings),
     }
 }

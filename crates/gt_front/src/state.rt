@@ -8,7 +8,7 @@ use std::fmt;
 
 /// Why a machine stopped, as a note says it.
 #[derive(Drop)]
-struct TrapNote(Trap);
+pub struct TrapNote(pub Trap);
 
 impl fmt::Display for TrapNote {
     ghost output = { λ note. Some (trap_text note.0) };

@@ -19,6 +19,8 @@ pub enum Job {
     Link,
     /// Runs an image and writes its output.
     Run,
+    /// Runs a module's program without making an address a number, and writes its output.
+    Sim,
     /// Makes a program of so many blocks and writes it as a GTIRB file.
     Demo,
 }
@@ -107,7 +109,7 @@ type JobRow = (Job, &'static str, &'static [WordName], &'static [WordName]);
 pub type NameRow = (WordName, &'static str, Kind);
 
 /// The jobs.
-pub const JOBS: [JobRow; 6] = [
+pub const JOBS: [JobRow; 7] = [
     (Job::Recode, "recode", &[WordName::In, WordName::Out], &[]),
     (
         Job::Check,
@@ -137,6 +139,19 @@ pub const JOBS: [JobRow; 6] = [
         "run",
         &[WordName::In, WordName::Out],
         &[WordName::Input, WordName::Steps],
+    ),
+    (
+        Job::Sim,
+        "sim",
+        &[WordName::In, WordName::Out],
+        &[
+            WordName::Module,
+            WordName::Plain,
+            WordName::Isa,
+            WordName::Layout,
+            WordName::Input,
+            WordName::Steps,
+        ],
     ),
     (
         Job::Demo,

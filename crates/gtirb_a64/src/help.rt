@@ -15,6 +15,9 @@ Each job reads the files that its words name and writes one. The name - is stand
       link a module's program to a bare image, under a layout or the default one
   run in=IMAGE out=FILE [input=FILE] [steps=N]
       run a bare image for at most N instructions (1,000,000 unless said) and write its output
+  sim in=FILE out=FILE [input=FILE] [steps=N] [layout=FILE] [module=N] [plain=..] [isa=N]
+      run a module's program without making an address a number, where it can be linked, and write its
+      output; says where and why the program leaves what every layout shares (docs/STUCK.md)
   demo seed=N blocks=N out=FILE
       make a program of so many blocks (1 to 100,000) that add constants, which begin at the seed, and
       write it as a GTIRB file

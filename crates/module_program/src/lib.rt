@@ -7,12 +7,15 @@ mod data;
 mod expressions;
 mod forms;
 mod index;
+pub mod laws;
 mod loaded;
 mod order;
 mod pieces;
 mod symbols;
 mod target;
+mod unpatched;
 mod whole;
 mod words;
 
+pub use unpatched::unpatched_program;
 pub use whole::program_of;

@@ -11,15 +11,14 @@ use Rattle.sym_expr.specs.declared.program.Filling.TheVariants.{Pointer, Differe
 use Rattle.sym_expr.specs.declared.target.Target.{Target}
 use Rattle.sym_expr.specs.declared.target.Target.TheVariants.{Number, Address, Code}
 use Rattle.sym_expr.specs.declared.target.Target.TheVariants as targets
-use Rattle.sym_expr.specs.Values.{Object, Block, Stack, Value, Num, Addr, At, Diff, Cell, Byte, Part, Quarter, EntryPart, Blank, same_object}
+use Rattle.sym_expr.specs.declared.value.KnownFlags.{KnownFlags}
+use Rattle.sym_expr.specs.declared.value.Object.{Object}
+use Rattle.sym_expr.specs.declared.value.Object.TheVariants.{Block, Stack}
+use Rattle.sym_expr.specs.declared.value.Value.{Value}
+use Rattle.sym_expr.specs.declared.value.Value.TheVariants.{Num, Addr, At, Diff}
+use Rattle.sym_expr.specs.Values.{Cell, Byte, Part, Quarter, EntryPart, Blank, same_object}
 
--- flags, each known or unknown
-pub record KnownFlags : Type 0 where
-  pub n : Option Bool
-  pub z : Option Bool
-  pub c : Option Bool
-  pub v : Option Bool
-
+-- no flag is known
 abbrev pub flags_unknown : KnownFlags
 flags_unknown = record { n = None; z = None; c = None; v = None }
 

@@ -24,11 +24,15 @@ use Rattle.sym_expr.specs.Placing.{Placed, placed}
 use Rattle.sym_expr.specs.Points.{after, data_at, object_alignment, is_code_piece}
 use Rattle.sym_expr.specs.declared.program.Stretch.{Stretch}
 use Rattle.sym_expr.specs.declared.program.Program.{Program}
-use Rattle.sym_expr.specs.States.{KnownFlags, flags_unknown, State, register, with_register, cells_at, with_cells, value_cells, number_cells, object_size, less}
+use Rattle.sym_expr.specs.States.{flags_unknown, State, register, with_register, cells_at, with_cells, value_cells, number_cells, object_size, less}
 use Rattle.sym_expr.specs.declared.target.Target.{Target}
 use Rattle.sym_expr.specs.declared.target.Target.TheVariants.{Number, Address, Code}
 use Rattle.sym_expr.specs.declared.target.Target.TheVariants as targets
-use Rattle.sym_expr.specs.Values.{Object, Value, Num, Addr, At, PageOf, Diff, Step, Cell, Byte, Part, Quarter, EntryPart, Blank, same_object, same_point, same_target, same_value, number_in, value_of, page_value}
+use Rattle.sym_expr.specs.declared.value.KnownFlags.{KnownFlags}
+use Rattle.sym_expr.specs.declared.value.Object.{Object}
+use Rattle.sym_expr.specs.declared.value.Value.{Value}
+use Rattle.sym_expr.specs.declared.value.Value.TheVariants.{Num, Addr, At, PageOf, Diff, Step}
+use Rattle.sym_expr.specs.Values.{Cell, Byte, Part, Quarter, EntryPart, Blank, same_object, same_point, same_target, same_value, number_in, value_of, page_value}
 
 -- what an operation comes to
 abbrev pub Outcome : Type 0 → Type 0

@@ -5,21 +5,10 @@ use Rattle.sym_expr.specs.declared.point.Point.{Point}
 use Rattle.sym_expr.specs.declared.target.Target.{Target}
 use Rattle.sym_expr.specs.declared.target.Target.TheVariants.{Number, Address, Code}
 use Rattle.sym_expr.specs.declared.target.Target.TheVariants as targets
-
--- what holds bytes: a data block of the program, or the stack
-pub data Object : Type 0 where
-  Block : List ℕ → Object
-  Stack : Object
-
--- a number below 2 ^ 64, an address in an object with its offset modulo 2 ^ 64, an address in code, the page of a
--- target, the difference of two targets, and a number read from an entry, which remembers its two points
-pub data Value : Type 0 where
-  Num : ℕ → Value
-  Addr : Object → ℕ → Value
-  At : Point → Value
-  PageOf : Target → Value
-  Diff : Target → Target → Value
-  Step : Point → Point → ℕ → Value
+use Rattle.sym_expr.specs.declared.value.Object.{Object}
+use Rattle.sym_expr.specs.declared.value.Object.TheVariants.{Block, Stack}
+use Rattle.sym_expr.specs.declared.value.Value.{Value}
+use Rattle.sym_expr.specs.declared.value.Value.TheVariants.{Num, Addr, At, PageOf, Diff, Step}
 
 -- a byte, the k-th of eight parts of a value that isn't a number, the k-th of four parts of a difference, the k-th
 -- part of an entry of so many bytes and this scale, and what is unknown

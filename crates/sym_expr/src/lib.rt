@@ -12,6 +12,7 @@ mod point;
 mod program;
 mod shape;
 mod target;
+mod value;
 
 pub use a64_inst::{FitFault, Kind, fit, operand_kind};
 pub use aim::Aim;
@@ -25,3 +26,4 @@ pub use point::Point;
 pub use program::{CodeBlock, DataBlock, Filling, Piece, Program, Stretch, Word};
 pub use shape::{Shape, ShapeSpot};
 pub use target::Target;
+pub use value::{KnownFlags, Object, Value};

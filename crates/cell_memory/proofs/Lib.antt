@@ -1,0 +1,9 @@
+pub mod Runs
+pub mod Changes
+pub mod Numbers
+pub mod Parts
+pub mod Taken
+pub mod RunCells
+pub mod Filled
+pub mod Kept
+pub mod Objects

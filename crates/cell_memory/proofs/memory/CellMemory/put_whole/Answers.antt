@@ -1,0 +1,25 @@
+use Rattle.std.proofs.Common.{◌≡◌, ◌∙◌, IsSome, refl, sym, ap, subst}
+use Rattle.std.specs.Str.{bytes_eq}
+use Rattle.std.proofs.Math.Path.{fun_ext}
+use Rattle.std.proofs.lemmas.Slice.Eq.{bytes_eq-Decides}
+use Rattle.indexmap.specs.IndexMap.{get}
+use Rattle.cell_memory.specs.declared.memory.CellMemory.{CellMemory}
+use Rattle.cell_memory.specs.Memory.{cells_of}
+use Rattle.cell_memory.proofs.Objects.{on_err, same_shown}
+use Rattle.sym_expr.specs.declared.value.Object.{Object}
+use Rattle.sym_expr.specs.declared.value.Object.TheVariants.{Block, Stack}
+use Rattle.cell_memory.proofs.memory.CellMemory.put_whole.Goals as goal
+
+pub returns-in-Some-clause-err : goal.returns-in-Some-clause-err
+returns-in-Some-clause-err c =
+    let self = c.args.self.now in
+    let id = c.in-Block.id in
+    let w = c.put_whole-in-Some.new.self in
+    let new : CellMemory = record self { blocks = c.get_mut.follows.lender w } in
+    let writes = (c.get_mut.follows.holds w).3 (subst IsSome c.in-Some.ensures.value refl) in
+    on_err c.put_whole-in-Some.result
+    (λ same. fun_ext (λ (other : Object). elim other as (λ o. cells_of new o ≡ cells_of self o) [
+      | Stack ↦ refl
+      | Block q ↦ same_shown (bytes_eq id q) w c.in-Some.cells.now (get bytes_eq self.blocks q) (get bytes_eq (c.get_mut.follows.lender w) q) same
+          (λ hit. ap (get bytes_eq self.blocks) (sym ((bytes_eq-Decides id q).0 hit)) ∙ sym c.in-Some.ensures.value) (writes.0 q)
+    ])) c.put_whole-in-Some.ensures.err

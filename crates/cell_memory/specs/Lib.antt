@@ -1,0 +1,4 @@
+pub mod Shown
+pub mod Memory
+pub mod Wholes
+pub mod Blocks

@@ -1,0 +1,5 @@
+pub mod Placement
+pub mod Meant
+pub mod Held
+pub mod Placed
+pub mod Follows

@@ -1,0 +1,105 @@
+//! Many instructions in a row.
+
+ghost use Rattle.std.specs.Prelude.{◌≡◌, ◌≤◌, ◌+◌, ℕ, IfOk};
+ghost use Rattle.a64_inst.specs.Runs.{further, onward, Run};
+ghost use Rattle.sym_expr.specs.declared.cause.Cause.{Cause as CauseOf};
+ghost use Rattle.sym_expr.specs.Points.{reached};
+ghost use Rattle.sym_expr.specs.States.{State};
+ghost use Rattle.sym_expr.specs.Steps.{step};
+ghost use Rattle.sym_run.specs.declared.report.SymEnd.TheVariants.{Running};
+ghost use Rattle.sym_run.specs.Standing.{done_at, end_at, StandsAt};
+
+use crate::flow::Flow;
+use crate::report::SymEnd;
+use crate::runner::Runner;
+use indexed_program::IndexedProgram;
+use std::alloc::AllocError;
+use sym_expr::{Point, Value};
+
+/// How many instructions were done, and how the run stands.
+#[derive(Drop)]
+pub struct Stop {
+    pub done: u64,
+    pub end: SymEnd,
+}
+
+/// How a run stands behind a step of a flow, at a point if it is stuck.
+fn end_at(at: Point, flow: Flow) -> SymEnd
+    ensures { result ≡ end_at at flow }
+{
+    match flow {
+        Flow::On | Flow::Placed => SymEnd::Running,
+        Flow::Exit(status) => SymEnd::Exit(status),
+        Flow::Trap(why) => SymEnd::Trap(why),
+        Flow::Stuck(cause) => SymEnd::Stuck(at, cause),
+    }
+}
+
+/// How many instructions are done by a step that comes to an end.
+fn done_at(end: &SymEnd) -> u64
+    ensures count { result ≡ done_at end.now }
+    ensures most { result ≤ 1 }
+{
+    match end {
+        SymEnd::Stuck(..) => 0,
+        _ => 1,
+    }
+}
+
+/// Does one instruction of a run that goes on.
+#[tactic(auto, using(crate::proofs::Reached::one_step))]
+pub fn do_step(
+    runner: &mut Runner<'_>,
+    program: &IndexedProgram,
+    values: &mut Vec<Value>,
+) -> Result<SymEnd, AllocError>
+    ensures { IfOk result (λ end. (r : Run CauseOf State) (done : ℕ) → StandsAt program.now r done Running runner.old → StandsAt program.now (further (step program.now) r) (done + done_at end) end runner.new) }
+{
+    let flow = runner.step(program, values)?;
+    Ok(end_at(program.reached(runner.place), flow))
+}
+
+/// Does so many instructions, or fewer where the run ends before.
+fn do_steps(
+    runner: &mut Runner<'_>,
+    program: &IndexedProgram,
+    values: &mut Vec<Value>,
+    steps: u64,
+) -> Result<Stop, AllocError>
+    ensures done { IfOk result (λ stop. stop.done ≤ steps) }
+    ensures reached { IfOk result (λ stop. (r : Run CauseOf State) (before : ℕ) → StandsAt program.now r before Running runner.old → StandsAt program.now (onward (step program.now) steps r) (before + stop.done) stop.end runner.new) }
+{
+    for done in 0..steps {
+        match do_step(runner, program, values)? {
+            SymEnd::Running => {}
+            end => {
+                let last = done_at(&end);
+                return Ok(Stop {
+                    done: done + last,
+                    end,
+                });
+            }
+        }
+    }
+    Ok(Stop {
+        done: steps,
+        end: SymEnd::Running,
+    })
+}
+
+/// The same from how a run stands: nothing follows an end.
+pub fn go_on(
+    runner: &mut Runner<'_>,
+    program: &IndexedProgram,
+    values: &mut Vec<Value>,
+    end: SymEnd,
+    steps: u64,
+) -> Result<Stop, AllocError>
+    ensures done { IfOk result (λ stop. stop.done ≤ steps) }
+    ensures reached { IfOk result (λ stop. (r : Run CauseOf State) (before : ℕ) → StandsAt program.now r before end runner.old → StandsAt program.now (onward (step program.now) steps r) (before + stop.done) stop.end runner.new) }
+{
+    match end {
+        SymEnd::Running => do_steps(runner, program, values, steps),
+        end => Ok(Stop { done: 0, end }),
+    }
+}
