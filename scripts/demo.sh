@@ -30,10 +30,10 @@ link exit_three.gtirb 0 done bytes=72
 link checksum_o1.gtirb 0 done bytes=4324
 run exit_three.image 0 steps=3 exit 3
 run hello.image 0 steps=8 exit 0
-sim exit_three.gtirb 0 steps=3 exit 3
+sim exit_three.gtirb 0 steps=4 exit 3
 sim checksum_o1.gtirb 0 steps=23708 exit 0
 sim checksum_os.gtirb 0 steps=22145 exit 0
-linked exit_three.gtirb 0 steps=3 exit 3
+linked exit_three.gtirb 0 steps=4 exit 3
 linked checksum_o1.gtirb 0 steps=23708 exit 0
 linked checksum_os.gtirb 0 steps=22145 exit 0
 '
