@@ -1,3 +1,4 @@
+pub mod Finding
 pub mod OwnKeys
 pub mod PlaceLists
 pub mod Taken

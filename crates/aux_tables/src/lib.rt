@@ -2,10 +2,11 @@
 #![tactic(auto)]
 
 mod entries;
+mod found;
+mod named;
 mod places;
 mod reading;
 mod tables;
 
-pub use places::read_places;
-pub use reading::read_table;
+pub use found::Found;
 pub use tables::{ProgramTables, program_tables};

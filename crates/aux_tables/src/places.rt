@@ -1,15 +1,12 @@
-//! The Places in a table.
+//! The Places in what a table holds.
 
-ghost use Rattle.std.specs.Prelude.{◌≡◌, ◌∷◌, ◌++◌, [], map, OnOk};
-ghost use Rattle.aux_types.specs.Gives.{Gives};
+ghost use Rattle.std.specs.Prelude.{◌≡◌, ◌∷◌, ◌++◌, [], map, IfOk, OnOk};
+ghost use Rattle.std.specs.Option.{option_map};
 ghost use Rattle.aux_codec.specs.Places.{places_of, places_of_each, places_of_entries};
 ghost use Rattle.aux_codec.specs.Value.{value_of, entry_of, values, entries};
-ghost use Rattle.aux_tables.specs.ModuleTables.{held_places};
 
-use crate::reading::read_table;
-use aux_codec::{AuxFault, AuxPair, AuxValue, Place};
-use gr_base::{End, Seq};
-use gt_model::Aux;
+use aux_codec::{AuxPair, AuxValue, Place};
+use gr_base::Seq;
 use std::alloc::{AllocError, Global};
 
 #[cycle(put_places)]
@@ -55,16 +52,18 @@ fn put_places(out: &mut Vec<Place>, value: &AuxValue) -> Result<(), AllocError>
     }
 }
 
-/// The Places in a table, in order of reading, or its first fault; nothing where its type isn't
-/// parsed.
-pub fn read_places(alloc: Global, table: &Aux) -> Result<Option<Seq<Place>>, End<AuxFault>>
-    ensures { Gives (λ places. places) result (held_places table.now) }
+/// The Places in what a table holds, in order of reading; nothing where its type isn't parsed.
+pub(crate) fn places_in(
+    alloc: Global,
+    value: &Option<AuxValue>,
+) -> Result<Option<Seq<Place>>, AllocError>
+    ensures { IfOk result (λ places. places ≡ option_map places_of (option_map value_of value.now)) }
 {
-    match read_table(alloc, table)? {
+    match value {
         None => Ok(None),
         Some(value) => {
             let mut places = Vec::new(alloc);
-            put_places(&mut places, &value)?;
+            put_places(&mut places, value)?;
             Ok(Some(Seq::from_vec(places)))
         }
     }

@@ -1,12 +1,14 @@
 //! The two tables that say something of a program, to be looked up in.
 
 ghost use Rattle.std.specs.Prelude.{◌≡◌, find, IfOk, IfSome};
-ghost use Rattle.std.specs.Option.{option_copied, option_map};
+ghost use Rattle.std.specs.Option.{option_and_then, option_copied, option_map};
 ghost use Rattle.aux_codec.specs.Value.{value_of};
 ghost use Rattle.sym_expr.specs.Tables.{alignment_entry, expr_size};
-ghost use Rattle.aux_tables.specs.ModuleTables.{alignments, expr_sizes, is_table, table_value, tables_among, value_named, HasOwnKeys};
+ghost use Rattle.aux_tables.specs.Found.{is_alignment, is_sizes};
+ghost use Rattle.aux_tables.specs.ModuleTables.{alignments, expr_sizes, table_value, tables_among, HasOwnKeys};
 
-use crate::entries::{numbers_of, sizes_of};
+use crate::entries::{numbers_if, sizes_if};
+use crate::named::{is_alignment, is_sizes};
 use crate::reading::read_table;
 use aux_codec::AuxValue;
 use gr_base::End;
@@ -24,8 +26,8 @@ const ADDRESS_SIZE: u64 = 8;
 /// Contracts see it as the entries of the two tables.
 #[derive(Drop)]
 pub struct ProgramTables {
-    alignment: IndexMap<Uuid, u64>,
-    sizes: IndexMap<(Uuid, u64), u64>,
+    pub(crate) alignment: IndexMap<Uuid, u64>,
+    pub(crate) sizes: IndexMap<(Uuid, u64), u64>,
 }
 
 impl Model for ProgramTables {
@@ -55,18 +57,6 @@ impl ProgramTables {
     }
 }
 
-fn is_table(name: &str, type_name: &str, table: &Aux) -> bool
-    ensures { result ≡ is_table name.now type_name.now table.now }
-{
-    name == table.name.as_str() && type_name == table.type_name.as_str()
-}
-
-fn table_named<'a>(name: &str, type_name: &str, tables: &'a [Aux]) -> Option<&'a Aux>
-    ensures { option_copied result ≡ find (is_table name.now type_name.now) tables.now }
-{
-    tables.iter().find(|table| is_table(name, type_name, table))
-}
-
 /// What a table holds, if it is decoded.
 fn table_value(alloc: Global, table: &Aux) -> Result<Option<AuxValue>, AllocError>
     ensures value { IfOk result (λ value. option_map value_of value ≡ table_value table.now) }
@@ -79,39 +69,41 @@ fn table_value(alloc: Global, table: &Aux) -> Result<Option<AuxValue>, AllocErro
     }
 }
 
-/// What the table of a name and a type holds, if there is one that is decoded.
-fn value_named(
-    alloc: Global,
-    name: &str,
-    type_name: &str,
-    tables: &[Aux],
-) -> Result<Option<AuxValue>, AllocError>
-    ensures value { IfOk result (λ value. option_map value_of value ≡ value_named name.now type_name.now tables.now) }
+/// What a table holds, if there is one and it is decoded.
+fn value_if(alloc: Global, table: Option<&Aux>) -> Result<Option<AuxValue>, AllocError>
+    ensures value { IfOk result (λ value. option_map value_of value ≡ option_and_then table_value (option_copied table.entry)) }
     ensures keys { IfOk result (λ value. IfSome value (λ x. HasOwnKeys (value_of x))) }
 {
-    match table_named(name, type_name, tables) {
+    match table {
         None => Ok(None),
         Some(table) => table_value(alloc, table),
     }
 }
 
+fn alignment_table(tables: &[Aux]) -> Option<&Aux>
+    ensures { option_copied result ≡ find is_alignment tables.now }
+{
+    tables.iter().find(|table| is_alignment(table))
+}
+
+fn sizes_table(tables: &[Aux]) -> Option<&Aux>
+    ensures { option_copied result ≡ find is_sizes tables.now }
+{
+    tables.iter().find(|table| is_sizes(table))
+}
+
 fn alignments(alloc: Global, tables: &[Aux]) -> Result<IndexMap<Uuid, u64>, AllocError>
     ensures { IfOk result (λ numbers. numbers.entries ≡ alignments tables.now) }
 {
-    match value_named(alloc, "alignment", "mapping<UUID,uint64_t>", tables)? {
-        None => Ok(IndexMap::new(alloc)),
-        Some(value) => numbers_of(alloc, &value),
-    }
+    let value = value_if(alloc, alignment_table(tables))?;
+    numbers_if(alloc, &value)
 }
 
 fn expr_sizes(alloc: Global, tables: &[Aux]) -> Result<IndexMap<(Uuid, u64), u64>, AllocError>
     ensures { IfOk result (λ sizes. sizes.entries ≡ expr_sizes tables.now) }
 {
-    let name = "symbolicExpressionSizes";
-    match value_named(alloc, name, "mapping<Offset,uint64_t>", tables)? {
-        None => Ok(IndexMap::new(alloc)),
-        Some(value) => sizes_of(alloc, &value),
-    }
+    let value = value_if(alloc, sizes_table(tables))?;
+    sizes_if(alloc, &value)
 }
 
 /// What the tables of a module say of a program. A table that is absent, of another type or not

@@ -5,6 +5,7 @@ use Rattle.std.specs.Option.{option_map, option_map_or}
 use Rattle.std.proofs.lemmas.List.{length-map}
 use Rattle.std.proofs.lemmas.List.Concat.{length-flat_map}
 use Rattle.aux_codec.specs.declared.value.Place.{Place}
+use Rattle.aux_tables.specs.Found.{places_held}
 use Rattle.aux_tables.specs.ModuleTables.{shape_of_table, table_places}
 use Rattle.aux_types.specs.Shape.{Shape}
 use Rattle.gt_model.specs.declared.edges.Cfg.{Cfg}
@@ -12,7 +13,6 @@ use Rattle.gt_model.specs.declared.intervals.Interval.{Interval}
 use Rattle.gt_model.specs.declared.tables.Aux.{Aux}
 use Rattle.ir_check.specs.AtGraph.{interval_ids}
 use Rattle.ir_check.specs.Report.{report_of}
-use Rattle.ir_check.specs.TablesRead.{places_held}
 use Rattle.ir_check.specs.declared.report.CheckReport.{CheckReport}
 use Rattle.ir_check.proofs.Bridge.{sections_intervals, sum_same}
 use Rattle.node_arena.specs.Arenas.{Arenas, module_at, interval_at}

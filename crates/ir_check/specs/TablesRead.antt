@@ -2,14 +2,10 @@
 use Rattle.std.specs.Prelude.{ℕ, Bool, List, find, Option}
 use Rattle.std.specs.Option.{option_map, option_and_then}
 use Rattle.aux_codec.specs.declared.value.Place.{Place}
-use Rattle.aux_tables.specs.ModuleTables.{shape_of_table, table_places}
+use Rattle.aux_tables.specs.Found.{places_held}
 use Rattle.gt_model.specs.declared.tables.Aux.{Aux}
 use Rattle.node_arena.specs.declared.fault.CheckFault.{CheckFault}
 use Rattle.node_arena.specs.declared.fault.CheckFault.TheVariants as faults
-
--- the Places in a table, nothing for one whose type isn't parsed
-abbrev pub places_held : Aux → Option (List Place)
-places_held a = option_map (λ _. table_places a) (shape_of_table a)
 
 -- the first Place for which a test holds
 abbrev pub past_in : (Place → Bool) → Option (List Place) → Option Place

@@ -61,14 +61,15 @@ pub fn check_program(
         return Err(End::Fault(fault));
     }
     let tables = graph.module(module).aux.as_slice();
-    let all = match read_tables(alloc, tables) {
-        Ok(all) => all,
+    let found = match read_tables(alloc, tables) {
+        Ok(found) => found,
         Err(end) => return Err(end),
     };
+    let (all, said) = found.parts(alloc);
     if let Err(end) = check_places(alloc, &part, tables, all.as_slice()) {
         return Err(end);
     }
-    if let Err(end) = check_exprs(alloc, graph, module, &part, &profile.plain) {
+    if let Err(end) = check_exprs(alloc, graph, module, &part, said, &profile.plain) {
         return Err(end);
     }
     let report = report_of(alloc, graph, module, all.as_slice())?;

@@ -1,11 +1,11 @@
 //! How much there is of everything.
 
 ghost use Rattle.std.specs.Prelude.{◌≡◌, ◌+◌, ◌<◌, length, count_by, is_none, sum_by, map, IfOk};
+ghost use Rattle.aux_tables.specs.Found.{places_held};
 ghost use Rattle.node_arena.specs.Arenas.{interval_at, module_at};
 ghost use Rattle.node_arena.specs.Plain.{ir_of, plain_module};
 ghost use Rattle.ir_check.specs.Report.{report_of};
 ghost use Rattle.ir_check.specs.Spans.{AreIntervals};
-ghost use Rattle.ir_check.specs.TablesRead.{places_held};
 
 use crate::loaded::intervals_of;
 use crate::report::CheckReport;

@@ -24,7 +24,7 @@ use crate::part::LoadedPart;
 use crate::profile::Plain;
 use crate::span::Span;
 use crate::targets::names_bad;
-use aux_tables::{ProgramTables, program_tables};
+use aux_tables::ProgramTables;
 use gr_base::End;
 use gt_model::{Block, Expr};
 use indexmap::IndexMap;
@@ -137,21 +137,22 @@ fn exprs_fault(
     None
 }
 
-/// Whether nothing is wrong with the expressions of what is loaded.
+/// Whether nothing is wrong with the expressions of what is loaded, of which the tables say this.
 pub(crate) fn check_exprs(
     alloc: Global,
     graph: &Graph,
     module: ModuleId,
     part: &LoadedPart,
+    tables: ProgramTables,
     plain: &Plain,
 ) -> Result<(), End<CheckFault>>
     requires live { «module».index < length graph.now.modules }
     requires part { IsPart graph.now «module» part.now }
     requires intervals { AreIntervals graph.now part.now.intervals.items }
+    requires said { tables ≡ tables_of (plain_module graph.now (module_at graph.now «module»)) }
     ensures { Ends result (first (faults_of_exprs plain.now (plain_module graph.now (module_at graph.now «module»)) (tables_of (plain_module graph.now (module_at graph.now «module»))))) (λ _. ⊤) }
 {
     let aims = aims_of(alloc, graph, module, &part.sites)?;
-    let tables = program_tables(alloc, graph.module(module).aux.as_slice())?;
     let names = Names { aims, tables };
     let intervals = part.intervals.as_slice();
     match exprs_fault(graph, plain, &names, intervals, part.spans.as_slice()) {

@@ -1,27 +1,30 @@
 //! The checks of the auxiliary tables.
 
-ghost use Rattle.std.specs.Prelude.{◌≡◌, find, map, ⊤};
+ghost use Rattle.std.specs.Prelude.{◌≡◌, List, [], ◌∷◌, ◌++◌, find, map, ⊤};
 ghost use Rattle.std.specs.Str.{bytes_eq};
 ghost use Rattle.indexmap.specs.IndexMap.{get};
+ghost use Rattle.gt_model.specs.declared.tables.Aux.{Aux as AuxOf};
+ghost use Rattle.aux_tables.specs.Found.{places_held, IsFound};
 ghost use Rattle.ir_check.specs.Faults.{aux_fault};
 ghost use Rattle.ir_check.specs.Outcomes.{Ends};
 ghost use Rattle.ir_check.specs.Part.{is_past_in};
 ghost use Rattle.ir_check.specs.Spans.{first_in};
-ghost use Rattle.ir_check.specs.TablesRead.{bad_place_in, bad_place_of, past_in, places_held};
+ghost use Rattle.ir_check.specs.TablesRead.{bad_place_in, bad_place_of, past_in};
 
 use crate::part::LoadedPart;
 use aux_codec::Place;
-use aux_tables::read_places;
+use aux_tables::Found;
 use gr_base::{End, Seq, Text};
 use gt_model::Aux;
 use node_arena::CheckFault;
 use std::alloc::Global;
 
-fn places_in(alloc: Global, table: &Aux) -> Result<Option<Seq<Place>>, End<CheckFault>>
-    ensures { Ends result (aux_fault table.now) (λ places. places ≡ places_held table.now) }
+/// Decodes one table more.
+fn add_table(alloc: Global, found: &mut Found, table: &Aux) -> Result<(), End<CheckFault>>
+    ensures { Ends result (aux_fault table.now) (λ _. (before : List AuxOf) → IsFound before found.old → IsFound (before ++ table.now ∷ []) found.new) }
 {
-    match read_places(alloc, table) {
-        Ok(places) => Ok(places),
+    match found.add(alloc, table) {
+        Ok(()) => Ok(()),
         Err(End::Memory) => Err(End::Memory),
         Err(End::Fault(fault)) => {
             let name = Text::from_str(alloc, table.name.as_str())?;
@@ -30,22 +33,17 @@ fn places_in(alloc: Global, table: &Aux) -> Result<Option<Seq<Place>>, End<Check
     }
 }
 
-/// The Places in each table, nothing for one whose type isn't parsed.
-pub(crate) fn read_tables(
-    alloc: Global,
-    tables: &[Aux],
-) -> Result<Vec<Option<Seq<Place>>>, End<CheckFault>>
-    ensures { Ends result (first_in aux_fault tables.now) (λ all. all.items ≡ map places_held tables.now) }
+/// What is found in the tables, each of which is decoded.
+pub(crate) fn read_tables(alloc: Global, tables: &[Aux]) -> Result<Found, End<CheckFault>>
+    ensures { Ends result (first_in aux_fault tables.now) (IsFound tables.now) }
 {
-    let mut all = Vec::new(alloc);
+    let mut found = Found::new(alloc);
     for table in tables {
-        let places = match places_in(alloc, table) {
-            Ok(places) => places,
-            Err(end) => return Err(end),
-        };
-        all.push(places)?;
+        if let Err(end) = add_table(alloc, &mut found, table) {
+            return Err(end);
+        }
     }
-    Ok(all)
+    Ok(found)
 }
 
 fn first_past(part: &LoadedPart, places: &[Place]) -> Option<Place>

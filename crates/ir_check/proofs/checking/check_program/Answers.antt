@@ -1,7 +1,14 @@
-use Rattle.std.proofs.Common.{ap, ◌∙◌}
+use Rattle.std.proofs.Common.{List, ap, ◌∙◌}
+use Rattle.aux_tables.specs.ModuleTables.{tables_among}
+use Rattle.gt_model.specs.declared.tables.Aux.{Aux}
 use Rattle.node_arena.specs.declared.nodes.ModuleNode.{ModuleNode}
 use Rattle.ir_check.proofs.Stages.{at_part, at_tables, at_places, at_exprs, at_end}
 use Rattle.ir_check.proofs.checking.check_program.Goals as goal
+
+pub check_exprs-requires-clause-said : goal.check_exprs-requires-clause-said
+check_exprs-requires-clause-said c =
+    c.parts-all.ensures.tables c.as_slice-tables.result.now c.in-Ok.ensures.1
+    ∙ ap (λ (tables : List Aux). tables_among tables) (c.as_slice-tables.ensures ∙ ap (λ (n : ModuleNode). n.aux) c.module.ensures.value)
 
 pub returns-in-Some-part_fault : goal.returns-in-Some-part_fault
 returns-in-Some-part_fault c =

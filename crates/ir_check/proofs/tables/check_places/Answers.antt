@@ -2,9 +2,10 @@ use Rattle.std.proofs.Common.{◌≡◌, ◌<◌, List, length, Option, sym, ap,
 use Rattle.std.specs.Str.{bytes_eq}
 use Rattle.indexmap.specs.IndexMap.{get}
 use Rattle.aux_codec.specs.declared.value.Place.{Place}
+use Rattle.aux_tables.specs.Found.{places_held}
 use Rattle.ir_check.specs.Outcomes.{Stops}
 use Rattle.ir_check.specs.Part.{is_past_in}
-use Rattle.ir_check.specs.TablesRead.{bad_place_in, bad_place_of, places_held}
+use Rattle.ir_check.specs.TablesRead.{bad_place_in, bad_place_of}
 use Rattle.ir_check.proofs.First.{none_item}
 use Rattle.ir_check.proofs.Stopping.{stops_at, mapped_item}
 use Rattle.ir_check.proofs.tables.check_places.Goals as goal
