@@ -1,5 +1,6 @@
-"""Writes a GTIRB file: of about a size, with many small nodes or few large contents; or a program with two tables of
-so many entries in all, whose blocks stand in order, in descending order, or all at one offset."""
+"""Writes a GTIRB file: of about a size, with many small nodes or few large contents; or a program of so many intervals;
+or one with two tables of so many entries in all, whose blocks stand in order, in descending order, or all at one
+offset."""
 import struct
 import sys
 
@@ -96,7 +97,15 @@ def at_one_offset(entries):
     return program(entries, [block(0, 0, 4 * BLOCKS)] + [block(index, 0, 0) for index in range(1, BLOCKS)])
 
 
-KINDS = {"nodes": many_nodes, "contents": large_contents, "program": in_order, "descending": descending, "one-offset": at_one_offset}
+def intervals(count):
+    """So many intervals of one NOP each, which is a code block; the first is the entry."""
+    each = [run(5, run(1, identifier(4, index)), block(index, 0, 4), number(6, 4), run(7, struct.pack("<I", 0xD503201F))) for index in range(count)]
+    section = run(12, run(1, identifier(5, 0)), run(2, b".text"), *each, number(6, 4))
+    module = run(3, run(1, identifier(3, 0)), number(6, 7), section, run(18, identifier(1, 0)), number(19, 2))
+    return run(1, identifier(6, 0)) + module + number(6, 4)
+
+
+KINDS = {"nodes": many_nodes, "contents": large_contents, "intervals": intervals, "program": in_order, "descending": descending, "one-offset": at_one_offset}
 
 if __name__ == "__main__":
     kind, size, path = sys.argv[1:]
