@@ -1,0 +1,13 @@
+use Rattle.std.proofs.Common.{inl}
+use Rattle.a64_forms.specs.Spelling.{IsAccess, OneSpells, Spelled, branches, held}
+use Rattle.a64_forms.proofs.OfForms.{none_of_two, second_some}
+use Rattle.a64_forms.proofs.reading.read_flow.Goals as goal
+
+pub returns-in-Some-clause-some : goal.returns-in-Some-clause-some
+returns-in-Some-clause-some c = inl c.in-Some.ensures.some
+
+pub returns-in-None-clause-some : goal.returns-in-None-clause-some
+returns-in-None-clause-some c = second_some (λ (s : Spelled). OneSpells branches c.args.texts.now s) (λ (s : Spelled). IsAccess c.args.texts.now s) c.read_access.result held c.read_access.ensures.some
+
+pub returns-in-None-clause-none : goal.returns-in-None-clause-none
+returns-in-None-clause-none c = none_of_two (λ (s : Spelled). OneSpells branches c.args.texts.now s) (λ (s : Spelled). IsAccess c.args.texts.now s) c.read_access.result c.in-None.ensures.none c.read_access.ensures.none

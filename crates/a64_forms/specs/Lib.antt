@@ -1,0 +1,4 @@
+pub mod Bits
+pub mod Names
+pub mod Number
+pub mod Spelling
