@@ -1,8 +1,10 @@
 //! The cells of one object.
 
-ghost use Rattle.std.specs.Prelude.{◌≡◌, ◌≤◌, ◌+◌, length, map, replicate, if◌then◌else◌, vec_len, Some, IfOk, OnOk, OnErr};
+ghost use Rattle.std.specs.Prelude.{◌≡◌, ◌≤◌, ◌<◌, ◌+◌, length, map, replicate, if◌then◌else◌, vec_len, Some, IfOk, IsOk, OnOk, OnErr};
 ghost use Rattle.std.specs.Map.{lookup};
+ghost use Rattle.indexmap.specs.IndexMap.{spare};
 ghost use Rattle.cell_memory.specs.declared.whole.Span.{Span as SpanOf};
+ghost use Rattle.cell_memory.specs.Memory.{room};
 ghost use Rattle.cell_memory.specs.Shown.{part_of, same_span, shown, with_part};
 ghost use Rattle.sym_expr.specs.States.{number_cells, parts_from, placed_cells};
 ghost use Rattle.sym_expr.specs.Values.{Byte, Blank};
@@ -32,6 +34,8 @@ fn keep<V: Copy + Drop>(
 ) -> Result<(), AllocError>
     ensures ok { OnOk result ((at : SpanOf) → lookup (same_span at) wholes.new.entries ≡ (if same_span span at then Some whole else lookup (same_span at) wholes.old.entries)) }
     ensures err { OnErr result (wholes.new.entries ≡ wholes.old.entries) }
+    ensures succeeds { 0 < spare wholes.old → IsOk result }
+    ensures room { spare wholes.old ≤ spare wholes.new + 1 }
 {
     wholes.insert(span, whole)?;
     Ok(())
@@ -77,11 +81,21 @@ impl Cells {
         self.bytes.len().min(self.marks.len()) as u64
     }
 
+    /// Makes room for so many wholes more.
+    pub fn reserve(&mut self, count: usize) -> Result<(), AllocError>
+        ensures cells { shown self.new ≡ shown self.old }
+        ensures ok { OnOk result (count ≤ room self.new) }
+        ensures room { room self.old ≤ room self.new }
+    {
+        self.wholes.reserve(count)
+    }
+
     /// Puts bytes from an offset on.
     #[inline(always)]
     pub fn put_bytes(&mut self, at: u64, bytes: &[u8])
         requires { at + length bytes.now ≤ length (shown self.old) }
-        ensures { shown self.new ≡ placed_cells at (map Byte bytes.now) (shown self.old) }
+        ensures cells { shown self.new ≡ placed_cells at (map Byte bytes.now) (shown self.old) }
+        ensures room { room self.new ≡ room self.old }
     {
         put_part(&mut self.bytes, at, bytes);
         fill_part(&mut self.marks, at, bytes.len(), 0);
@@ -111,6 +125,8 @@ impl Cells {
         requires inside { at + count ≤ length (shown self.old) }
         ensures ok { OnOk result (shown self.new ≡ placed_cells at (parts_from count 0 (part_of whole)) (shown self.old)) }
         ensures err { OnErr result (shown self.new ≡ shown self.old) }
+        ensures succeeds { 0 < room self.old → IsOk result }
+        ensures room { room self.old ≤ room self.new + 1 }
     {
         keep(&mut self.wholes, Span { start: at, count }, whole)?;
         fill_part(&mut self.bytes, at, count as usize, count);

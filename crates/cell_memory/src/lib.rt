@@ -5,6 +5,7 @@
 mod block;
 mod cells;
 mod fillings;
+pub mod laws;
 mod loads;
 mod memory;
 mod reading;

@@ -1,7 +1,7 @@
 -- A run by its steps, as the runner does them.
 use Rattle.std.proofs.Common.{◌≡◌, ℕ, ◌+◌, ◌-◌, ◌<◌, refl, sym, ap, subst, ◌∙◌, List, add-one, add-zero, arith}
 use Rattle.a64_inst.specs.Domain.{exit, trapped}
-use Rattle.a64_inst.specs.Runs.{Standing, going, over, halted, Run, unbegun, answered, moved, further, onward}
+use Rattle.a64_inst.specs.Runs.{Standing, going, over, halted, Run, unbegun, answered, moved, further, onward, run}
 use Rattle.a64_inst.specs.RunLaws.{IsOver, composed, nothing_follows}
 use Rattle.sym_expr.specs.declared.cause.Cause.{Cause}
 use Rattle.sym_expr.specs.declared.point.Point.{Point}
@@ -9,14 +9,14 @@ use Rattle.sym_expr.specs.declared.program.Program.{Program}
 use Rattle.sym_expr.specs.Points.{reached}
 use Rattle.sym_expr.specs.States.{State}
 use Rattle.sym_expr.specs.Steps.{step}
-use Rattle.sym_run.specs.declared.flow.Flow.{Flow}
-use Rattle.sym_run.specs.declared.flow.Flow.TheVariants as flows
+use Rattle.sym_step.specs.declared.flow.Flow.{Flow}
+use Rattle.sym_step.specs.declared.flow.Flow.TheVariants as flows
 use Rattle.sym_run.specs.declared.report.SymEnd.{SymEnd}
 use Rattle.sym_run.specs.declared.report.SymEnd.TheVariants.{Running, Stuck}
-use Rattle.sym_run.specs.declared.runner.Runner.{Runner}
+use Rattle.sym_step.specs.declared.runner.Runner.{Runner}
 use Rattle.sym_run.specs.declared.report.SymReport.{SymReport}
 use Rattle.sym_run.specs.Run.{end_of, seen}
-use Rattle.sym_run.specs.Runner.{came, state, Keeps}
+use Rattle.sym_step.specs.Runner.{came, state, Keeps}
 use Rattle.sym_run.specs.Standing.{done_at, end_at, StandsAt}
 
 -- what is running goes on
@@ -100,3 +100,25 @@ seen_so g r count end runner stands =
   where
     report_of : ℕ → SymEnd → List ℕ → SymReport
     report_of k e o = record { steps = k; end = e; output = o }
+
+-- a run that has ended is one step further where it was
+pub stays : (g : Program) (r : Run Cause State) (done : ℕ) (end : SymEnd) (runner : Runner) → (end ≡ Running → ⊥) → StandsAt g r done end runner
+    → StandsAt g (further (step g) r) done end runner
+unfolding onward
+stays g r done end runner ends stands = stays_ended g r 1 done end runner ends stands
+
+-- a run one step further is the run of one step more
+pub once_more : (g : Program) (s : State) (n done : ℕ) (end : SymEnd) (runner : Runner) → StandsAt g (further (step g) (run (step g) n s)) done end runner
+    → StandsAt g (run (step g) (n + 1) s) done end runner
+unfolding onward
+once_more g s n done end runner stands = subst (λ (k : ℕ). StandsAt g (onward (step g) k (unbegun s)) done end runner) (sym (add-one n)) stands
+
+-- a machine that is as it was stands as it stood
+pub as_before : (g : Program) (r : Run Cause State) (done : ℕ) (end : SymEnd) (old new : Runner) → state new ≡ state old → StandsAt g r done end old → StandsAt g r done end new
+as_before g r done end old new same stands = record {
+  done = stands.done;
+  standing = stands.standing;
+  place = stands.place ∙ ap (λ (s : State). s.place) (sym same);
+  output = stands.output ∙ ap (λ (s : State). s.output) (sym same);
+  going = λ e. stands.going e ∙ sym same;
+}

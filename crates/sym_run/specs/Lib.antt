@@ -1,6 +1,5 @@
-pub mod Kept
 pub mod Run
-pub mod Answers
-pub mod Runner
 pub mod Standing
-pub mod Stuck
+pub mod Opened
+pub mod Machine
+pub mod Next

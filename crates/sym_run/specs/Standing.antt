@@ -6,13 +6,13 @@ use Rattle.sym_expr.specs.declared.point.Point.{Point}
 use Rattle.sym_expr.specs.declared.program.Program.{Program}
 use Rattle.sym_expr.specs.Points.{reached}
 use Rattle.sym_expr.specs.States.{State}
-use Rattle.sym_run.specs.declared.flow.Flow.{Flow}
-use Rattle.sym_run.specs.declared.flow.Flow.TheVariants as flows
+use Rattle.sym_step.specs.declared.flow.Flow.{Flow}
+use Rattle.sym_step.specs.declared.flow.Flow.TheVariants as flows
 use Rattle.sym_run.specs.declared.report.SymEnd.{SymEnd}
 use Rattle.sym_run.specs.declared.report.SymEnd.TheVariants.{Running, Exit, Trap, Stuck}
-use Rattle.sym_run.specs.declared.runner.Runner.{Runner}
+use Rattle.sym_step.specs.declared.runner.Runner.{Runner}
 use Rattle.sym_run.specs.Run.{end_of}
-use Rattle.sym_run.specs.Runner.{state}
+use Rattle.sym_step.specs.Runner.{state}
 
 -- how many instructions are done by a step that comes to this end: a stuck one is none
 abbrev pub done_at : SymEnd → ℕ

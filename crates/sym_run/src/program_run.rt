@@ -3,12 +3,12 @@ ghost use Rattle.sym_expr.specs.WellMade.{well_made};
 ghost use Rattle.sym_run.specs.Run.{sym_run};
 
 use crate::report::{SymEnd, SymReport};
-use crate::runner::Runner;
 use crate::steps::go_on;
 use gr_base::Bytes;
 use indexed_program::IndexedProgram;
 use std::alloc::{AllocError, Global};
 use sym_expr::Program;
+use sym_step::Runner;
 
 /// Runs a program for so many instructions, or fewer where the run ends before.
 #[tactic(auto, using(crate::proofs::Reached::begun, crate::proofs::Reached::seen_so))]

@@ -1,6 +1,6 @@
 //! Many instructions in a row.
 
-ghost use Rattle.std.specs.Prelude.{◌≡◌, ◌≤◌, ◌+◌, ℕ, IfOk};
+ghost use Rattle.std.specs.Prelude.{◌≡◌, ◌≤◌, ◌+◌, ℕ, IfOk, OnErr};
 ghost use Rattle.a64_inst.specs.Runs.{further, onward, Run};
 ghost use Rattle.sym_expr.specs.declared.cause.Cause.{Cause as CauseOf};
 ghost use Rattle.sym_expr.specs.Points.{reached};
@@ -8,13 +8,13 @@ ghost use Rattle.sym_expr.specs.States.{State};
 ghost use Rattle.sym_expr.specs.Steps.{step};
 ghost use Rattle.sym_run.specs.declared.report.SymEnd.TheVariants.{Running};
 ghost use Rattle.sym_run.specs.Standing.{done_at, end_at, StandsAt};
+ghost use Rattle.sym_step.specs.Runner.{state};
 
-use crate::flow::Flow;
 use crate::report::SymEnd;
-use crate::runner::Runner;
 use indexed_program::IndexedProgram;
 use std::alloc::AllocError;
 use sym_expr::{Point, Value};
+use sym_step::{Flow, Runner};
 
 /// How many instructions were done, and how the run stands.
 #[derive(Drop)]
@@ -53,7 +53,8 @@ pub fn do_step(
     program: &IndexedProgram,
     values: &mut Vec<Value>,
 ) -> Result<SymEnd, AllocError>
-    ensures { IfOk result (λ end. (r : Run CauseOf State) (done : ℕ) → StandsAt program.now r done Running runner.old → StandsAt program.now (further (step program.now) r) (done + done_at end) end runner.new) }
+    ensures ok { IfOk result (λ end. (r : Run CauseOf State) (done : ℕ) → StandsAt program.now r done Running runner.old → StandsAt program.now (further (step program.now) r) (done + done_at end) end runner.new) }
+    ensures err { OnErr result (state runner.new ≡ state runner.old) }
 {
     let flow = runner.step(program, values)?;
     Ok(end_at(program.reached(runner.place), flow))
@@ -100,6 +101,27 @@ pub fn go_on(
 {
     match end {
         SymEnd::Running => do_steps(runner, program, values, steps),
+        end => Ok(Stop { done: 0, end }),
+    }
+}
+
+/// Does one instruction of a run that may have ended; where memory is wanted the machine is as it was.
+pub fn step_on(
+    runner: &mut Runner<'_>,
+    program: &IndexedProgram,
+    values: &mut Vec<Value>,
+    end: SymEnd,
+) -> Result<Stop, AllocError>
+    ensures done { IfOk result (λ stop. stop.done ≤ 1) }
+    ensures reached { IfOk result (λ stop. (r : Run CauseOf State) (before : ℕ) → StandsAt program.now r before end runner.old → StandsAt program.now (further (step program.now) r) (before + stop.done) stop.end runner.new) }
+    ensures err { OnErr result (state runner.new ≡ state runner.old) }
+{
+    match end {
+        SymEnd::Running => {
+            let end = do_step(runner, program, values)?;
+            let done = done_at(&end);
+            Ok(Stop { done, end })
+        }
         end => Ok(Stop { done: 0, end }),
     }
 }

@@ -16,7 +16,7 @@ loop-done-preserved c = λ r before stands.
     let g = c.args.program.now in
     let done = c.loop-done.done in
     subst (λ (e : SymEnd). StandsAt g (onward (step g) (done + 1) r) (before + (done + done_at e)) e c.do_step.new.runner) c.in-Running.is
-    (goes_on g r before done c.in_ok-end.end c.do_step.new.runner (c.in_ok-end.ensures (onward (step g) done r) (before + done) (c.loop-done.invariant r before stands)))
+    (goes_on g r before done c.in_ok-end.end c.do_step.new.runner (c.in_ok-end.ensures.ok (onward (step g) done r) (before + done) (c.loop-done.invariant r before stands)))
 
 pub returns-in_default : goal.returns-in_default
 returns-in_default c =
@@ -27,7 +27,7 @@ returns-in_default c =
       reached = λ r before stands.
           subst (λ (k : ℕ). StandsAt g (onward (step g) c.args.steps r) (before + (done + k)) c.in_ok-end.end c.do_step.new.runner) (sym c.done_at-last.ensures.count)
           (stops g r done c.args.steps (before + (done + done_at c.in_ok-end.end)) c.in_ok-end.end c.do_step.new.runner c.loop-done-test.true c.in_default.not-Running
-          (goes_on g r before done c.in_ok-end.end c.do_step.new.runner (c.in_ok-end.ensures (onward (step g) done r) (before + done) (c.loop-done.invariant r before stands))));
+          (goes_on g r before done c.in_ok-end.end c.do_step.new.runner (c.in_ok-end.ensures.ok (onward (step g) done r) (before + done) (c.loop-done.invariant r before stands))));
     }
 
 pub returns-clause-reached : goal.returns-clause-reached

@@ -12,8 +12,8 @@ put_part-requires c = let all = length-cells (kept_in c.args.self.now) 0 c.args.
 pub fill_part-requires : goal.fill_part-requires
 fill_part-requires c = let all = length-cells (kept_in c.args.self.now) 0 c.args.self.now.bytes.items c.args.self.now.marks.items in omega arith
 
-pub returns : goal.returns
-returns c =
+pub returns-clause-cells : goal.returns-clause-cells
+returns-clause-cells c =
     let self = c.args.self.now in
     let kept = kept_in self in
     let n = length c.args.bytes.now in

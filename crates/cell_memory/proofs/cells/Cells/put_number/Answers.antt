@@ -7,4 +7,4 @@ use Rattle.cell_memory.proofs.cells.Cells.put_number.Goals as goal
 
 pub returns : goal.returns
 returns c =
-    c.put_bytes.ensures ∙ ap (λ cs. placed_cells c.args.at cs (shown c.args.self.now)) (ap (λ bs. map Byte (take c.args.count bs)) c.to_le_bytes.ensures ∙ low_cells c.args.count c.args.n c.requires.count)
+    c.put_bytes.ensures.cells ∙ ap (λ cs. placed_cells c.args.at cs (shown c.args.self.now)) (ap (λ bs. map Byte (take c.args.count bs)) c.to_le_bytes.ensures ∙ low_cells c.args.count c.args.n c.requires.count)

@@ -1,11 +1,11 @@
-use Rattle.std.proofs.Common.{◌≡◌, ◌∙◌, IsSome, refl, sym, ap, subst}
+use Rattle.std.proofs.Common.{◌≡◌, ◌+◌, ◌∙◌, IsSome, refl, sym, ap, subst, arith}
 use Rattle.std.specs.Str.{bytes_eq}
 use Rattle.std.proofs.Math.Path.{fun_ext}
 use Rattle.std.proofs.lemmas.Slice.Eq.{bytes_eq-Decides}
 use Rattle.indexmap.specs.IndexMap.{get}
 use Rattle.cell_memory.specs.declared.memory.CellMemory.{CellMemory}
 use Rattle.cell_memory.specs.Memory.{cells_of}
-use Rattle.cell_memory.proofs.Objects.{on_err, same_shown}
+use Rattle.cell_memory.proofs.Objects.{on_err, same_shown, written_room}
 use Rattle.sym_expr.specs.declared.value.Object.{Object}
 use Rattle.sym_expr.specs.declared.value.Object.TheVariants.{Block, Stack}
 use Rattle.cell_memory.proofs.memory.CellMemory.put_whole.Goals as goal
@@ -23,3 +23,13 @@ returns-in-Some-clause-err c =
       | Block q ↦ same_shown (bytes_eq id q) w c.in-Some.cells.now (get bytes_eq self.blocks q) (get bytes_eq (c.get_mut.follows.lender w) q) same
           (λ hit. ap (get bytes_eq self.blocks) (sym ((bytes_eq-Decides id q).0 hit)) ∙ sym c.in-Some.ensures.value) (writes.0 q)
     ])) c.put_whole-in-Some.ensures.err
+
+pub returns-in-Some-clause-room : goal.returns-in-Some-clause-room
+returns-in-Some-clause-room c = λ other more has.
+    let self = c.args.self.now in
+    let id = c.in-Block.id in
+    let w = c.put_whole-in-Some.new.self in
+    let new : CellMemory = record self { blocks = c.get_mut.follows.lender w } in
+    let writes = (c.get_mut.follows.holds w).3 (subst IsSome c.in-Some.ensures.value refl) in
+    written_room self new id w c.in-Some.cells.now more 1 (more + 1) other (omega arith) (omega (arith, c.put_whole-in-Some.ensures.room)) refl
+    (λ q hit. ap (get bytes_eq self.blocks) (sym ((bytes_eq-Decides id q).0 hit)) ∙ sym c.in-Some.ensures.value) (λ q. writes.0 q) has

@@ -1,5 +1,0 @@
-use Rattle.sym_run.proofs.Quiet.{step_goes_on}
-use Rattle.sym_run.proofs.laws.what_asks_nothing_goes_on.Goals as goal
-
-pub returns : goal.returns
-returns c = step_goes_on

@@ -1,0 +1,23 @@
+//! One step of the symbolic machine. Where memory is wanted and there is none, nothing has changed.
+#![tactic(auto)]
+
+mod call;
+mod changes;
+mod choices;
+mod execute;
+mod flags;
+mod flow;
+mod given;
+pub mod laws;
+mod loads;
+mod output;
+mod parts;
+mod registers;
+mod room;
+mod runner;
+mod stores;
+
+pub use flow::Flow;
+pub use output::Output;
+pub use registers::Registers;
+pub use runner::Runner;
