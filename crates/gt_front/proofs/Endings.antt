@@ -8,7 +8,7 @@ use Rattle.gr_base.specs.declared.whole.ReadEnd.TheVariants as reads
 use Rattle.gt_front.specs.declared.answer.Answer.{Answer}
 use Rattle.gt_front.specs.declared.answer.Answer.TheVariants.{Done, Usage, ReadFault, WriteFault, Memory, TooLarge, Format, Check, Image}
 use Rattle.gt_front.specs.declared.answer.Answer.TheVariants.{Layout as LayoutAnswer, Link as LinkAnswer}
-use Rattle.gt_front.specs.declared.answer.Role.{Role}
+use Rattle.command_words.specs.declared.role.Role.{Role}
 use Rattle.gt_front.specs.declared.inputs.Unread.{Unread}
 use Rattle.gt_front.specs.declared.verdict.Finished.{Finished}
 use Rattle.gt_front.specs.declared.verdict.Refusal.{Refusal}
@@ -17,7 +17,7 @@ use Rattle.gt_front.specs.Answer.{answer_of, unread_answer}
 use Rattle.gt_front.specs.Causes.{ReadFaultCause, TooLargeCause, WriteFaultCause, IsOwn, IsComplete, IsStopped, Kept, Settles, Wrote, WrotePart, verdict_answer}
 use Rattle.gt_front.specs.Inputs.{InputFile, AllReadable, inputs_of}
 use Rattle.gt_front.specs.Outcome.{Outcomes, Outcome, Pass, Verdict, Promised, out_of}
-use Rattle.gt_front.specs.Picked.{Picked}
+use Rattle.command_words.specs.Picked.{Picked}
 use Rattle.gt_front.specs.Reads.{Counts, IsUnread}
 use Rattle.gt_front.specs.Served.{Around, Served}
 use Rattle.gt_front.proofs.FirstBad.{missing_unreadable, large_unreadable}

@@ -1,4 +1,3 @@
-pub mod Numbers
 pub mod Chains
 pub mod Outcomes
 pub mod Telling
@@ -7,8 +6,6 @@ pub mod FirstBad
 pub mod Unreads
 pub mod Endings
 pub mod Serving
-pub mod Usages
-pub mod Requireds
 pub mod Binding
 pub mod LineWords
 pub mod LayoutTexts

@@ -10,17 +10,17 @@ use Rattle.bare_image.specs.declared.image.Image.{Image as AnImage}
 use Rattle.bare_image.specs.Reading.{image_fault}
 use Rattle.bare_image.specs.Valid.{AreBytes, image_bytes}
 use Rattle.num_run.specs.Run.{num_run}
-use Rattle.gt_front.specs.declared.answer.Role.{Role}
-use Rattle.gt_front.specs.declared.answer.Role.TheVariants.{In, Input}
-use Rattle.gt_front.specs.declared.table.Job.{Job}
-use Rattle.gt_front.specs.declared.table.Job.TheVariants.{Recode, Check, Layout, Link, Run, Sim, Demo}
+use Rattle.command_words.specs.declared.role.Role.{Role}
+use Rattle.command_words.specs.declared.role.Role.TheVariants.{In, Input}
+use Rattle.command_words.specs.declared.table.Job.{Job}
+use Rattle.command_words.specs.declared.table.Job.TheVariants.{Recode, Check, Layout, Link, Run, Sim, Demo}
 use Rattle.gt_front.specs.Inputs.{AllHeld, Contents, HoldBytes, bytes_in, contents_of, inputs_of}
 use Rattle.gt_front.specs.Outcome.{Pass, Outcome, Verdict, makes_as}
-use Rattle.gt_front.specs.Picked.{Picked, asked, picked, settings_of}
+use Rattle.command_words.specs.Picked.{Picked, asked, picked, settings_of}
 use Rattle.gt_front.specs.Recode.{written}
 use Rattle.gt_front.specs.Run.{reported}
-use Rattle.gt_front.specs.Table.{job_named}
-use Rattle.gt_front.specs.Words.{WordsOk, is_short, lacks_any}
+use Rattle.command_words.specs.Table.{job_named}
+use Rattle.command_words.specs.Words.{WordsOk, is_short, lacks_any}
 use Rattle.gt_front.specs.Stages.{Stage, GivesOne, GivesSome, chain, exactly, just, meant, imaged}
 use Rattle.layout_plan.specs.Text.{layout_text, text_fault}
 use Rattle.layout_plan.specs.declared.fault.LayoutFault.TheVariants.{Line}
@@ -28,7 +28,7 @@ use Rattle.gt_model.specs.declared.modules.Module.{Module}
 use Rattle.sym_expr.specs.declared.layout.Layout.{Layout as ALayout}
 use Rattle.sym_expr.specs.declared.shape.Shape.{Shape}
 use Rattle.sym_expr.specs.Placing.{shape_of}
-use Rattle.gt_front.specs.declared.answer.Role.TheVariants as roles
+use Rattle.command_words.specs.declared.role.Role.TheVariants as roles
 use Rattle.gt_front.specs.declared.verdict.Refusal.TheVariants as refusals
 use Rattle.gt_front.specs.Demo.{demo_made}
 use Rattle.module_program.specs.Graphs.{program_in}

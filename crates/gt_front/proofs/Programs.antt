@@ -25,7 +25,7 @@ use Rattle.sym_expr.specs.Modules.{intervals_of, is_loaded, loaded_intervals, lo
 use Rattle.gt_front.specs.declared.verdict.Refusal.{Refusal}
 use Rattle.gt_front.specs.declared.verdict.Refusal.TheVariants.{Check}
 use Rattle.gt_front.specs.Modules.{checked_module, linked_up, module_in, profile_of, program_module, unless}
-use Rattle.gt_front.specs.Picked.{Picked}
+use Rattle.command_words.specs.Picked.{Picked}
 use Rattle.gt_front.proofs.Binding.{bind_ok}
 
 -- two steps give a value only where both do

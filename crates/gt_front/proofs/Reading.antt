@@ -11,13 +11,13 @@ use Rattle.gr_base.specs.declared.end.End.{End}
 use Rattle.gr_base.specs.declared.end.End.TheVariants as ends
 use Rattle.gr_base.specs.declared.whole.ReadEnd.{ReadEnd}
 use Rattle.gr_base.specs.declared.whole.ReadEnd.TheVariants as reads
-use Rattle.gt_front.specs.declared.answer.Role.{Role}
-use Rattle.gt_front.specs.declared.answer.Role.TheVariants.{In, Patch, Layout, Input}
-use Rattle.gt_front.specs.declared.answer.TheConstants.{ROLES}
+use Rattle.command_words.specs.declared.role.Role.{Role}
+use Rattle.command_words.specs.declared.role.Role.TheVariants.{In, Patch, Layout, Input}
+use Rattle.command_words.specs.declared.role.TheConstants.{ROLES}
 use Rattle.gt_front.specs.declared.inputs.Contents as declared
 use Rattle.gt_front.specs.declared.inputs.Unread.{Unread}
 use Rattle.gt_front.specs.Inputs.{InputFile, IsReadable, IsTooLarge, AllReadable, input_as, files_as, contents_of}
-use Rattle.gt_front.specs.Picked.{Picked}
+use Rattle.command_words.specs.Picked.{Picked}
 use Rattle.gt_front.specs.Reads.{Counts, Refuses, IsUnread, IsUnreadAs, HoldsAmong, HoldsAll, Puts, contents_view, same_role, among}
 use Rattle.gt_front.proofs.Telling.{told_map2, told_back}
 

@@ -5,7 +5,7 @@ use Rattle.gr_base.specs.declared.end.End.TheVariants as ends
 use Rattle.gr_base.specs.declared.whole.WriteFault as faults
 use Rattle.gt_front.specs.declared.answer.Answer.{Answer}
 use Rattle.gt_front.specs.declared.answer.Answer.TheVariants.{Done, Usage, WriteFault, Memory}
-use Rattle.gt_front.specs.declared.answer.TheConstants.{ROLES}
+use Rattle.command_words.specs.declared.role.TheConstants.{ROLES}
 use Rattle.gt_front.specs.declared.inputs.Contents as declared
 use Rattle.gt_front.specs.declared.verdict.Finished.{Finished}
 use Rattle.gt_front.specs.declared.verdict.Refusal.{Refusal}
@@ -13,7 +13,7 @@ use Rattle.gt_front.specs.Answer.{answer_of}
 use Rattle.gt_front.specs.Causes.{Kept, Wrote, WrotePart, WritesNothing}
 use Rattle.gt_front.specs.Inputs.{InputFile, Contents, AllHeld, AllReadable, files_as}
 use Rattle.gt_front.specs.Outcome.{Promised, Promises, Outcome, Outcomes, Pass, Verdict, makes}
-use Rattle.gt_front.specs.Picked.{Picked, picked}
+use Rattle.command_words.specs.Picked.{Picked, picked}
 use Rattle.gt_front.specs.Reads.{HoldsAll, Writes, contents_view}
 use Rattle.gt_front.specs.Served.{Around, Served}
 use Rattle.gt_front.proofs.Endings.{refused, done, write_refused, write_short}

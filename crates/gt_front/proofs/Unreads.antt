@@ -7,7 +7,7 @@ use Rattle.gr_base.specs.declared.whole.ReadEnd.{ReadEnd}
 use Rattle.gr_base.specs.declared.whole.ReadEnd.TheVariants as reads
 use Rattle.gt_front.specs.declared.answer.Answer.{Answer}
 use Rattle.gt_front.specs.declared.answer.Answer.TheVariants.{ReadFault, TooLarge}
-use Rattle.gt_front.specs.declared.answer.Role.{Role}
+use Rattle.command_words.specs.declared.role.Role.{Role}
 use Rattle.gt_front.specs.Answer.{unread_answer}
 use Rattle.gt_front.specs.Causes.{ReadFaultCause, TooLargeCause}
 use Rattle.gt_front.specs.Inputs.{InputFile, IsReadable, IsTooLarge, AllReadable, Reaches, Names}

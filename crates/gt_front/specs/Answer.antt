@@ -5,7 +5,7 @@ use Rattle.gr_base.specs.declared.end.End.TheVariants as ends
 use Rattle.gr_base.specs.declared.whole.ReadEnd.{ReadEnd}
 use Rattle.gr_base.specs.declared.whole.ReadEnd.TheVariants as reads
 use Rattle.gt_front.specs.declared.answer.Answer.{Answer}
-use Rattle.gt_front.specs.declared.answer.Role.{Role}
+use Rattle.command_words.specs.declared.role.Role.{Role}
 use Rattle.gt_front.specs.declared.answer.Answer.TheVariants.{Done, Usage, ReadFault, WriteFault, Memory, TooLarge, Format, Check, Image}
 use Rattle.gt_front.specs.declared.answer.Answer.TheVariants.{Layout as LayoutAnswer, Link as LinkAnswer}
 use Rattle.gt_front.specs.declared.verdict.Refusal.{Refusal}

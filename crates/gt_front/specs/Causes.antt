@@ -1,7 +1,7 @@
 -- When each answer of a job comes, and what it leaves in the files.
 use Rattle.std.specs.Prelude.{◌≡◌, ◌≢◌, ◌⊎◌, ℕ, ◌+◌, ◌^◌, Bool, IsTrue, List, Option, Some, None, IsSome, Ok, Err}
 use Rattle.gr_base.specs.Desk.{Files, Told, SameFiles, Leaves, LeavesPart, Rose, Took}
-use Rattle.gt_front.specs.declared.answer.Role.{Role}
+use Rattle.command_words.specs.declared.role.Role.{Role}
 use Rattle.gt_front.specs.declared.answer.Answer.{Answer}
 use Rattle.gt_front.specs.declared.answer.Answer.TheVariants.{Done, ReadFault, WriteFault, Memory, TooLarge}
 use Rattle.gt_front.specs.declared.verdict.Finished.{Finished}

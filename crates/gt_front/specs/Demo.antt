@@ -8,8 +8,8 @@ use Rattle.gt_write.specs.Canonical.{canonical}
 use Rattle.num_run.specs.declared.report.RunEnd.TheVariants.{Exit}
 use Rattle.num_run.specs.declared.report.RunReport.{RunReport}
 use Rattle.gt_front.specs.declared.verdict.Finished.{Finished}
-use Rattle.gt_front.specs.declared.words.Settings.{Settings}
-use Rattle.gt_front.specs.Run.{state_text}
+use Rattle.command_words.specs.declared.words.Settings.{Settings}
+use Rattle.note_texts.specs.StateTexts.{state_text}
 use Rattle.gt_front.specs.declared.verdict.Refusal.{Refusal}
 use Rattle.gt_front.specs.Modules.{linked_up}
 use Rattle.gt_front.specs.Stages.{Stage, exactly}

@@ -4,9 +4,9 @@ use Rattle.std.specs.List.{AllByRecursion, flat_map}
 use Rattle.std.specs.Option.{option_and_then}
 use Rattle.gr_base.specs.Desk.{Files}
 use Rattle.bare_image.specs.Valid.{AreBytes}
-use Rattle.gt_front.specs.declared.answer.Role.{Role}
-use Rattle.gt_front.specs.declared.answer.TheConstants.{ROLES}
-use Rattle.gt_front.specs.Picked.{Picked}
+use Rattle.command_words.specs.declared.role.Role.{Role}
+use Rattle.command_words.specs.declared.role.TheConstants.{ROLES}
+use Rattle.command_words.specs.Picked.{Picked}
 
 -- an input file: what it is to the job, and its name
 abbrev pub InputFile : Type 0

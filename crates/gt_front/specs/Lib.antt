@@ -1,7 +1,3 @@
-pub mod Table
-pub mod Numbers
-pub mod Words
-pub mod Picked
 pub mod Answer
 pub mod Note
 pub mod Inputs
@@ -16,4 +12,3 @@ pub mod Outcome
 pub mod Causes
 pub mod Reads
 pub mod Served
-pub mod FaultTexts

@@ -25,13 +25,13 @@ use Rattle.sym_expr.specs.declared.shape.Shape.{Shape}
 use Rattle.sym_expr.specs.Images.{image, link_fault}
 use Rattle.sym_expr.specs.Layouts.{default_of}
 use Rattle.sym_expr.specs.Placing.{shape_of}
-use Rattle.gt_front.specs.declared.answer.Role.TheVariants as roles
+use Rattle.command_words.specs.declared.role.Role.TheVariants as roles
 use Rattle.gt_front.specs.declared.verdict.Finished.{Finished}
 use Rattle.gt_front.specs.declared.verdict.Refusal.{Refusal}
 use Rattle.gt_front.specs.declared.verdict.Refusal.TheVariants.{Check, Layout, Link}
 use Rattle.gt_front.specs.Inputs.{Contents, bytes_in}
-use Rattle.gt_front.specs.Numbers.{is_every, flags_of}
-use Rattle.gt_front.specs.Picked.{Picked}
+use Rattle.command_words.specs.Numbers.{is_every, flags_of}
+use Rattle.command_words.specs.Picked.{Picked}
 use Rattle.gt_front.specs.Recode.{written}
 use Rattle.gt_front.specs.Stages.{Stage, chain, exactly, meant}
 

@@ -4,17 +4,9 @@ use Rattle.std.specs.Fmt.{decimal}
 use Rattle.gt_front.specs.declared.answer.Answer.{Answer}
 use Rattle.gt_front.specs.declared.answer.Answer.TheVariants.{Done, Usage, ReadFault, WriteFault, Memory, TooLarge, Format, Check, Image}
 use Rattle.gt_front.specs.declared.answer.Answer.TheVariants.{Layout as LayoutAnswer, Link as LinkAnswer}
-use Rattle.gt_front.specs.declared.answer.Role.{Role}
-use Rattle.gt_front.specs.declared.answer.Role.TheVariants.{In, Patch, Layout, Input}
-use Rattle.gt_front.specs.FaultTexts.{check_text, layout_text, link_text}
+use Rattle.command_words.specs.Roles.{role_name}
+use Rattle.note_texts.specs.FaultTexts.{check_text, layout_text, link_text}
 use Rattle.gt_read.specs.FaultText.{fault_text}
-
--- a role in a note
-abbrev pub role_name : Role → List ℕ
-role_name In = codes "in"
-role_name Patch = codes "patch"
-role_name Layout = codes "layout"
-role_name Input = codes "input"
 
 -- the line of an answer
 abbrev pub note : Answer → List ℕ

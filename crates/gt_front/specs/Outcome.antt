@@ -1,13 +1,13 @@
 -- The outcome of a job over the files, a desk's faults and want of memory aside.
 use Rattle.std.specs.Prelude.{ℕ, List, Option, Some, None, Result}
 use Rattle.gr_base.specs.Desk.{Files}
-use Rattle.gt_front.specs.declared.answer.TheConstants.{ROLES}
-use Rattle.gt_front.specs.declared.table.Job.{Job}
-use Rattle.gt_front.specs.declared.table.Job.TheVariants.{Recode, Check, Layout, Link, Run, Sim, Demo}
+use Rattle.command_words.specs.declared.role.TheConstants.{ROLES}
+use Rattle.command_words.specs.declared.table.Job.{Job}
+use Rattle.command_words.specs.declared.table.Job.TheVariants.{Recode, Check, Layout, Link, Run, Sim, Demo}
 use Rattle.gt_front.specs.declared.verdict.Finished.{Finished}
 use Rattle.gt_front.specs.declared.verdict.Refusal.{Refusal}
 use Rattle.gt_front.specs.Inputs.{Contents, AllHeld, files_as, contents_of}
-use Rattle.gt_front.specs.Picked.{Picked}
+use Rattle.command_words.specs.Picked.{Picked}
 use Rattle.gt_front.specs.Stages.{Stage}
 use Rattle.gt_front.specs.Recode.{Recodes, ReadsBack}
 use Rattle.gt_front.specs.Run.{Runs}

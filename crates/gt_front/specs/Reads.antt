@@ -7,14 +7,14 @@ use Rattle.gr_base.specs.declared.end.End.TheVariants as ends
 use Rattle.gr_base.specs.declared.whole.ReadEnd.{ReadEnd}
 use Rattle.gr_base.specs.declared.whole.ReadEnd.TheVariants as reads
 use Rattle.gr_base.specs.declared.whole.WriteFault.{WriteFault}
-use Rattle.gt_front.specs.declared.answer.Role.{Role}
-use Rattle.gt_front.specs.declared.answer.Role.TheVariants.{In, Patch, Layout, Input}
+use Rattle.command_words.specs.declared.role.Role.{Role}
+use Rattle.command_words.specs.declared.role.Role.TheVariants.{In, Patch, Layout, Input}
 use Rattle.gt_front.specs.declared.inputs.Contents as declared
 use Rattle.gt_front.specs.declared.inputs.Unread.{Unread}
 use Rattle.gt_front.specs.declared.verdict.Finished.{Finished}
 use Rattle.gt_front.specs.Causes.{Wrote, WrotePart}
 use Rattle.gt_front.specs.Inputs.{InputFile, Contents, contents_of, AllReadable, IsTooLarge}
-use Rattle.gt_front.specs.Picked.{Picked}
+use Rattle.command_words.specs.Picked.{Picked}
 
 -- the contents that the program's own value has
 abbrev pub contents_view : declared.Contents → Contents

@@ -4,7 +4,7 @@ use Rattle.std.specs.Fmt.{decimal}
 use Rattle.gt_model.specs.declared.ir.Ir.{Ir}
 use Rattle.gt_read.specs.File.{file}
 use Rattle.gt_write.specs.Canonical.{canonical}
-use Rattle.gt_front.specs.declared.answer.Role.TheVariants.{In}
+use Rattle.command_words.specs.declared.role.Role.TheVariants.{In}
 use Rattle.gt_front.specs.declared.verdict.Finished.{Finished}
 use Rattle.gt_front.specs.Inputs.{Contents, bytes_in}
 use Rattle.gt_front.specs.Stages.{Stage, chain, just, meant}

@@ -1,36 +1,13 @@
 -- What `run` makes of its image and its input.
-use Rattle.std.specs.Prelude.{ℕ, List, ◌++◌, codes, Some}
-use Rattle.std.specs.Fmt.{decimal}
-use Rattle.a64_inst.specs.declared.trap.Trap.{Trap}
-use Rattle.a64_inst.specs.declared.trap.Trap.TheVariants as traps
-use Rattle.num_run.specs.declared.report.RunEnd.{RunEnd}
-use Rattle.num_run.specs.declared.report.RunEnd.TheVariants as ends
+use Rattle.std.specs.Prelude.{Some}
 use Rattle.num_run.specs.declared.report.RunReport.{RunReport}
 use Rattle.num_run.specs.Run.{num_run}
-use Rattle.gt_front.specs.declared.answer.Role.TheVariants.{In, Input}
+use Rattle.command_words.specs.declared.role.Role.TheVariants.{In, Input}
 use Rattle.gt_front.specs.declared.verdict.Finished.{Finished}
-use Rattle.gt_front.specs.declared.words.Settings.{Settings}
+use Rattle.command_words.specs.declared.words.Settings.{Settings}
 use Rattle.gt_front.specs.Inputs.{Contents, bytes_in}
+use Rattle.note_texts.specs.StateTexts.{state_text}
 use Rattle.gt_front.specs.Stages.{Stage, chain, just, imaged}
-
--- why a machine stopped
-abbrev pub trap_text : Trap → List ℕ
-trap_text traps.Undecoded = codes "undecoded"
-trap_text (traps.Break n) = codes "break " ++ decimal n
-trap_text (traps.Udf n) = codes "udf " ++ decimal n
-trap_text traps.BadCall = codes "call"
-trap_text traps.Fault = codes "fault"
-trap_text traps.OutputFull = codes "output"
-
--- where a run stands
-abbrev pub end_text : RunEnd → List ℕ
-end_text ends.Running = codes "running"
-end_text (ends.Exit status) = codes "exit " ++ decimal status
-end_text (ends.Trap why) = codes "trap " ++ trap_text why
-
--- the state of a run: how many instructions it did, and where it stands
-abbrev pub state_text : RunReport → List ℕ
-state_text report = codes "steps=" ++ (decimal report.steps ++ (codes " " ++ end_text report.end))
 
 -- the output of a run is written, and the text says where it stands
 abbrev pub reported : RunReport → Finished

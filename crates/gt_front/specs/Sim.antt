@@ -1,53 +1,21 @@
 -- What `sim` makes of a module, a layout and an input.
-use Rattle.std.specs.Prelude.{ℕ, List, ◌++◌, codes, Option, Some, Result, Ok}
-use Rattle.std.specs.Fmt.{decimal}
+use Rattle.std.specs.Prelude.{ℕ, List, Option, Some, Result, Ok}
 use Rattle.aux_types.specs.Gives.{◌>>=◌}
 use Rattle.gt_model.specs.declared.ir.Ir.{Ir}
-use Rattle.sym_expr.specs.declared.cause.Cause.{Cause}
-use Rattle.sym_expr.specs.declared.cause.Cause.TheVariants as causes
 use Rattle.sym_expr.specs.declared.layout.Layout.{Layout as ALayout}
-use Rattle.sym_expr.specs.declared.point.Point.{Point}
 use Rattle.sym_expr.specs.declared.program.Program.{Program}
 use Rattle.sym_expr.specs.Placing.{shape_of}
-use Rattle.sym_run.specs.declared.report.SymEnd.{SymEnd}
-use Rattle.sym_run.specs.declared.report.SymEnd.TheVariants as ends
 use Rattle.sym_run.specs.declared.report.SymReport.{SymReport}
 use Rattle.sym_run.specs.Run.{sym_run}
-use Rattle.gt_front.specs.declared.answer.Role.TheVariants as roles
+use Rattle.command_words.specs.declared.role.Role.TheVariants as roles
 use Rattle.gt_front.specs.declared.verdict.Finished.{Finished}
 use Rattle.gt_front.specs.declared.verdict.Refusal.{Refusal}
-use Rattle.gt_front.specs.FaultTexts.{id_text}
+use Rattle.note_texts.specs.SimTexts.{sim_text}
 use Rattle.gt_front.specs.Inputs.{Contents, bytes_in}
 use Rattle.module_program.specs.Graphs.{program_in}
 use Rattle.gt_front.specs.Modules.{laid, link_made, program_module}
-use Rattle.gt_front.specs.Picked.{Picked}
-use Rattle.gt_front.specs.Run.{trap_text}
+use Rattle.command_words.specs.Picked.{Picked}
 use Rattle.gt_front.specs.Stages.{Stage, chain, exactly, meant}
-
--- why a program is stuck
-abbrev pub cause_text : Cause → List ℕ
-cause_text causes.Value = codes "value"
-cause_text causes.Outside = codes "outside"
-cause_text causes.Mixed = codes "mixed"
-cause_text causes.Flag = codes "flag"
-cause_text causes.Fell = codes "fell"
-cause_text causes.Plain = codes "plain"
-cause_text causes.Undefined = codes "undefined"
-
--- a point: its block, its offset, and how many of the words that are inserted there it has behind it
-abbrev pub point_text : Point → List ℕ
-point_text at = id_text at.block ++ (codes "+" ++ (decimal at.offset ++ (codes "." ++ decimal at.j)))
-
--- where a symbolic run stands
-abbrev pub sim_end_text : SymEnd → List ℕ
-sim_end_text ends.Running = codes "running"
-sim_end_text (ends.Exit status) = codes "exit " ++ decimal status
-sim_end_text (ends.Trap why) = codes "trap " ++ trap_text why
-sim_end_text (ends.Stuck at cause) = codes "stuck " ++ (cause_text cause ++ (codes " at " ++ point_text at))
-
--- the state of a symbolic run: how many instructions it did, and where it stands
-abbrev pub sim_text : SymReport → List ℕ
-sim_text report = codes "steps=" ++ (decimal report.steps ++ (codes " " ++ sim_end_text report.end))
 
 -- the output of a symbolic run is written, and the text says where it stands
 abbrev pub simulated : SymReport → Finished

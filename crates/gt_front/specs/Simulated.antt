@@ -9,10 +9,10 @@ use Rattle.sym_expr.specs.declared.layout.Layout.{Layout as ALayout}
 use Rattle.sym_expr.specs.declared.program.Program.{Program}
 use Rattle.sym_expr.specs.Images.{link_fault}
 use Rattle.sym_expr.specs.Placing.{shape_of}
-use Rattle.gt_front.specs.declared.answer.Role.TheVariants as roles
+use Rattle.command_words.specs.declared.role.Role.TheVariants as roles
 use Rattle.gt_front.specs.Inputs.{Contents, bytes_in}
 use Rattle.gt_front.specs.Modules.{laid, program_module}
-use Rattle.gt_front.specs.Picked.{Picked}
+use Rattle.command_words.specs.Picked.{Picked}
 use Rattle.gt_front.specs.Stages.{Stage}
 
 -- the program has no fault under the layout, and its image does what its symbolic machine does

@@ -4,23 +4,12 @@ ghost use Rattle.gt_front.specs.Answer.{status_of, answer_of, unread_answer};
 use crate::inputs::Unread;
 use crate::verdict::Refusal;
 use bare_image::ImageFault;
+use command_words::Role;
 use gr_base::{End, ReadEnd, Text};
 use gt_read::FormatFault;
 use layout_plan::LayoutFault;
 use node_arena::CheckFault;
 use sym_expr::LinkFault;
-
-/// What an input file is to a job, in the order in which they are read.
-#[derive(Clone, Copy, Debug, PartialEq, Eq)]
-pub enum Role {
-    In,
-    Patch,
-    Layout,
-    Input,
-}
-
-/// The roles, in the order in which their files are read.
-pub const ROLES: [Role; 4] = [Role::In, Role::Patch, Role::Layout, Role::Input];
 
 /// How a job ended.
 #[derive(Debug, Drop)]

@@ -3,16 +3,15 @@ ghost use Rattle.std.specs.String.{string_bytes};
 ghost use Rattle.aux_types.specs.Gives.{Gives};
 ghost use Rattle.gt_model.specs.Ordered.{ordered};
 ghost use Rattle.gt_front.specs.Modules.{check_made, nodes_text, report_text, Checks};
-ghost use Rattle.gt_front.specs.Picked.{picked_view, InBounds};
+ghost use Rattle.command_words.specs.Picked.{picked_view, InBounds};
 ghost use Rattle.gt_front.specs.Reads.{contents_view};
 ghost use Rattle.gt_front.specs.Stages.{Answers};
 
-use crate::answer::Role;
 use crate::inputs::Contents;
 use crate::modules::load;
 use crate::stages::read_ir;
 use crate::verdict::{Finished, Refusal};
-use crate::words::Picked;
+use command_words::{Picked, Role};
 use gr_base::{End, Text};
 use gt_model::Ir;
 use ir_check::CheckReport;

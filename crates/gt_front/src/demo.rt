@@ -2,18 +2,18 @@ ghost use Rattle.std.specs.Prelude.{◌≡◌, ◌<◌, ◌≤◌, ◌^◌, IfOk
 ghost use Rattle.gt_model.specs.Ordered.{ordered};
 ghost use Rattle.demo_ir.specs.Demo.{demo_ir};
 ghost use Rattle.gt_front.specs.Demo.{Demos, demonstrated, summary};
-ghost use Rattle.gt_front.specs.Picked.{InBounds};
+ghost use Rattle.command_words.specs.Picked.{InBounds};
 ghost use Rattle.gt_front.specs.Stages.{Answers};
 
 use crate::modules::linked_up;
-use crate::state::state_note;
 use crate::verdict::{Finished, Refusal};
-use crate::words::Settings;
+use command_words::Settings;
 use demo_ir::laws::the_demo_is_ordered;
 use demo_ir::{demo_bytes, demo_exit, demo_ir};
 use gr_base::{Bytes, End, Text};
 use gt_model::Ir;
 use gt_write::write_file;
+use note_texts::state_note;
 use num_run::{RunEnd, RunReport};
 use std::alloc::{AllocError, Global};
 

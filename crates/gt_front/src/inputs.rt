@@ -1,12 +1,11 @@
 ghost use Rattle.std.specs.Prelude.{◌≡◌, ◌≤◌, ℕ, List, Some, None, IfOk, IfErr, OnOk};
 ghost use Rattle.gr_base.specs.Desk.{Told, ToldBoth, SameFiles};
-ghost use Rattle.gt_front.specs.declared.answer.TheConstants.{ROLES};
+ghost use Rattle.command_words.specs.declared.role.TheConstants.{ROLES};
 ghost use Rattle.gt_front.specs.Inputs.{input_as, files_as, contents_of, AllReadable, bytes_in};
-ghost use Rattle.gt_front.specs.Picked.{picked_view};
+ghost use Rattle.command_words.specs.Picked.{picked_view};
 ghost use Rattle.gt_front.specs.Reads.{contents_view, HoldsAll, Puts, IsUnread, IsUnreadAs};
 
-use crate::answer::{ROLES, Role};
-use crate::words::Picked;
+use command_words::{Picked, ROLES, Role};
 use gr_base::{Bytes, Desk, End, ReadEnd, read_whole};
 use std::alloc::Global;
 

@@ -8,11 +8,10 @@ ghost use Rattle.ir_check.specs.Report.{report_of};
 ghost use Rattle.node_arena.specs.Arenas.{module_at};
 ghost use Rattle.node_arena.specs.Plain.{ir_of, plain_module};
 ghost use Rattle.gt_front.specs.Modules.{checked_module, linked_up, module_in, passing_module, plain_of, profile_of, program_module};
-ghost use Rattle.gt_front.specs.Picked.{picked_view, InBounds};
+ghost use Rattle.command_words.specs.Picked.{picked_view, InBounds};
 
-use crate::number::{flags_of, is_every};
 use crate::verdict::Refusal;
-use crate::words::Picked;
+use command_words::{Picked, flags_of, is_every};
 use gr_base::{End, Seq};
 use gt_model::Ir;
 use gt_model::laws::linked_without_fault;

@@ -1,24 +1,11 @@
 ghost use Rattle.std.specs.Prelude.{◌≡◌, Some, IfOk};
-ghost use Rattle.gt_front.specs.Note.{note, role_name};
+ghost use Rattle.gt_front.specs.Note.{note};
 
-use crate::answer::{Answer, Role};
-use crate::fault_text::{CheckNote, LayoutNote, LinkNote};
+use crate::answer::Answer;
 use gr_base::Text;
+use note_texts::{CheckNote, LayoutNote, LinkNote};
 use std::alloc::{AllocError, Global};
 use std::fmt;
-
-impl fmt::Display for Role {
-    ghost output = { λ role. Some (role_name role) };
-
-    fn fmt<W: fmt::Write>(&self, f: &mut fmt::Formatter<W>) -> fmt::Result {
-        match self {
-            Role::In => write!(f, "in"),
-            Role::Patch => write!(f, "patch"),
-            Role::Layout => write!(f, "layout"),
-            Role::Input => write!(f, "input"),
-        }
-    }
-}
 
 impl fmt::Display for Answer {
     ghost output = { λ answer. Some (note answer) };

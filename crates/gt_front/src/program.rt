@@ -13,11 +13,11 @@ ghost use Rattle.sym_expr.specs.Linkable.{linkable};
 ghost use Rattle.sym_expr.specs.WellMade.{well_made};
 ghost use Rattle.placed_images.specs.Typed.{IsTyped, HasNearEntries};
 ghost use Rattle.gt_front.specs.Modules.{program_made};
-ghost use Rattle.gt_front.specs.Picked.{picked_view, InBounds};
+ghost use Rattle.command_words.specs.Picked.{picked_view, InBounds};
 
 use crate::modules::{Loaded, load};
 use crate::verdict::Refusal;
-use crate::words::Picked;
+use command_words::Picked;
 use gr_base::End;
 use gt_model::Ir;
 use gt_model::laws::linked_without_fault;

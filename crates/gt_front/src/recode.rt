@@ -7,10 +7,10 @@ ghost use Rattle.gt_front.specs.Reads.{contents_view};
 ghost use Rattle.gt_front.specs.Recode.{Recodes, ReadsBack, Means, written, done_text};
 ghost use Rattle.gt_front.specs.Stages.{Answers};
 
-use crate::answer::Role;
 use crate::inputs::Contents;
 use crate::stages::read_ir;
 use crate::verdict::{Finished, Refusal};
+use command_words::Role;
 use gr_base::{Bytes, End, Text};
 use gt_model::Ir;
 use gt_read::laws::one_meaning;

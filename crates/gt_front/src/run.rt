@@ -1,19 +1,18 @@
 ghost use Rattle.std.specs.Prelude.{◌≡◌, ◌≤◌, IfOk};
 ghost use Rattle.bare_image.specs.Valid.{image_ok};
 ghost use Rattle.num_run.specs.Run.{num_run};
-ghost use Rattle.gt_front.specs.Picked.{InBounds};
+ghost use Rattle.command_words.specs.Picked.{InBounds};
 ghost use Rattle.gt_front.specs.Reads.{contents_view};
 ghost use Rattle.gt_front.specs.Run.{Runs, reported};
 ghost use Rattle.gt_front.specs.Stages.{Answers};
 
-use crate::answer::Role;
 use crate::inputs::Contents;
 use crate::stages::image_in;
-use crate::state::state_note;
 use crate::verdict::{Finished, Refusal};
-use crate::words::Settings;
 use bare_image::Image;
+use command_words::{Role, Settings};
 use gr_base::{End, Text};
+use note_texts::state_note;
 use num_run::run_image;
 use std::alloc::{AllocError, Global};
 

@@ -1,8 +1,8 @@
 ghost use Rattle.std.specs.Prelude.{◌≡◌, ◌⊎◌, ◌↔◌, ℕ, List, [], Some, None, OnOk};
 ghost use Rattle.gr_base.specs.Desk.{Told, ToldBoth, Rose};
 ghost use Rattle.gt_front.specs.declared.answer.Answer.TheVariants as answers;
-ghost use Rattle.gt_front.specs.Words.{Usage, WordsOk};
-ghost use Rattle.gt_front.specs.Picked.{picked, picked_view, InBounds};
+ghost use Rattle.command_words.specs.Words.{Usage, WordsOk};
+ghost use Rattle.command_words.specs.Picked.{picked, picked_view, InBounds};
 ghost use Rattle.gt_front.specs.Inputs.{inputs_of};
 ghost use Rattle.gt_front.specs.Outcome.{Outcome, Promised, Promises, makes, out_of};
 ghost use Rattle.gt_front.specs.Causes.{ReadFaultCause, TooLargeCause, WriteFaultCause, IsOwn, IsComplete, Kept, WritesNothing};
@@ -21,9 +21,9 @@ use crate::output::write_output;
 use crate::recode::recode;
 use crate::run::run;
 use crate::sim::sim;
-use crate::table::Job;
 use crate::verdict::{Finished, Refusal};
-use crate::words::{Picked, parse_words};
+use command_words::laws::words_or_usage;
+use command_words::{Job, Picked, parse_words};
 use gr_base::{Desk, End, Seq, Text};
 use std::alloc::Global;
 
@@ -94,6 +94,7 @@ pub fn serve_words<D: Desk>(alloc: Global, words: &Seq<Text>, desk: &mut D) -> A
     ensures kept { ToldBoth (D.files desk.old) (D.files desk.new) (Kept (Outcome (picked words.now) []) (out_of (picked words.now)) result) }
     ensures nothing { out_of (picked words.now) ≡ None → ToldBoth (D.files desk.old) (D.files desk.new) (WritesNothing result) }
 {
+    words_or_usage();
     match parse_words(words.as_slice()) {
         Ok(asked) => serve_picked(alloc, &asked, desk),
         Err(index) => Answer::Usage(index),

@@ -1,8 +1,8 @@
 use Rattle.std.proofs.Common.{subst, ℕ, List, Err}
-use Rattle.gt_front.specs.declared.answer.Role.TheVariants.{In}
+use Rattle.command_words.specs.declared.role.Role.TheVariants.{In}
 use Rattle.gt_front.specs.Inputs.{bytes_in}
 use Rattle.gt_front.specs.Modules.{check_made}
-use Rattle.gt_front.specs.Picked.{picked_view}
+use Rattle.command_words.specs.Picked.{picked_view}
 use Rattle.gt_front.specs.Reads.{contents_view}
 use Rattle.gt_front.specs.Stages.{Answers, exactly, meant}
 use Rattle.gt_front.proofs.Chains.{chain_stops}

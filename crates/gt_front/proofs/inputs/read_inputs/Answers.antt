@@ -1,5 +1,5 @@
 use Rattle.std.proofs.Common.{refl, ◌∙◌, arith}
-use Rattle.gt_front.specs.Picked.{picked_view}
+use Rattle.command_words.specs.Picked.{picked_view}
 use Rattle.gt_front.proofs.Telling.{same_both}
 use Rattle.gt_front.proofs.Reading.{readable_next, holds_next, unread_next, if_err}
 use Rattle.gt_front.proofs.inputs.read_inputs.Goals as goal

@@ -1,8 +1,8 @@
 use Rattle.std.proofs.Common.{◌≡◌, ◌≤◌, take}
 use Rattle.gr_base.specs.Desk.{Told, ToldBoth, SameFiles}
-use Rattle.gt_front.specs.declared.answer.TheConstants.{ROLES}
+use Rattle.command_words.specs.declared.role.TheConstants.{ROLES}
 use Rattle.gt_front.specs.Inputs.{AllReadable, files_as}
-use Rattle.gt_front.specs.Picked.{picked_view}
+use Rattle.command_words.specs.Picked.{picked_view}
 use Rattle.gt_front.specs.Reads.{HoldsAmong}
 use Rattle.gt_front.proofs.inputs.read_inputs.Given as goal
 

@@ -1,10 +1,10 @@
 use Rattle.std.proofs.Common.{subst, ℕ, List, Option, Err}
 use Rattle.std.specs.Prelude.{OnOk}
 use Rattle.gt_read.specs.File.{file}
-use Rattle.gt_front.specs.declared.answer.Role.TheVariants.{In, Layout}
+use Rattle.command_words.specs.declared.role.Role.TheVariants.{In, Layout}
 use Rattle.gt_front.specs.Inputs.{bytes_in}
 use Rattle.gt_front.specs.Modules.{LinksIr}
-use Rattle.gt_front.specs.Picked.{picked_view}
+use Rattle.command_words.specs.Picked.{picked_view}
 use Rattle.gt_front.specs.Reads.{contents_view}
 use Rattle.gt_front.specs.Simulated.{SimulatesIr, SimulatesFile}
 use Rattle.gt_front.specs.Stages.{Answers, meant}

@@ -3,7 +3,7 @@ use Rattle.std.specs.Prelude.{OnOk}
 use Rattle.sym_expr.specs.declared.program.Program.{Program}
 use Rattle.module_program.specs.Graphs.{program_in}
 use Rattle.gt_front.specs.Modules.{program_module, LinksProgram}
-use Rattle.gt_front.specs.Picked.{picked_view}
+use Rattle.command_words.specs.Picked.{picked_view}
 use Rattle.gt_front.specs.Simulated.{SimulatesProgram, SimulatesIr}
 use Rattle.gt_front.specs.Stages.{Answers, exactly}
 use Rattle.gt_front.proofs.Chains.{chain_goes, on_ok_map}

@@ -5,7 +5,7 @@ use Rattle.gt_model.specs.declared.ir.Ir.{Ir}
 use Rattle.node_arena.specs.Arenas.{module_at}
 use Rattle.node_arena.specs.Plain.{plain_module}
 use Rattle.sym_expr.specs.Linkable.{linkable}
-use Rattle.gt_front.specs.Picked.{picked_view}
+use Rattle.command_words.specs.Picked.{picked_view}
 use Rattle.gt_front.proofs.Programs.{loaded_linkable}
 use Rattle.gt_front.proofs.program.load_program.Goals as goal
 

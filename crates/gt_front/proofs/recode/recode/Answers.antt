@@ -2,7 +2,7 @@ use Rattle.std.proofs.Common.{◌≡◌, subst, ℕ, List, Err}
 use Rattle.gt_model.specs.declared.ir.Ir.{Ir}
 use Rattle.gt_read.specs.File.{file}
 use Rattle.gt_write.specs.Canonical.{canonical}
-use Rattle.gt_front.specs.declared.answer.Role.TheVariants.{In}
+use Rattle.command_words.specs.declared.role.Role.TheVariants.{In}
 use Rattle.gt_front.specs.Inputs.{bytes_in}
 use Rattle.gt_front.specs.Reads.{contents_view}
 use Rattle.gt_front.specs.Recode.{Means, written}

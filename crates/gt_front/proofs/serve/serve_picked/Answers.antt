@@ -1,5 +1,5 @@
 use Rattle.std.proofs.Common.{refl, [], Some}
-use Rattle.gt_front.specs.Picked.{picked_view}
+use Rattle.command_words.specs.Picked.{picked_view}
 use Rattle.gt_front.proofs.Endings.{unread}
 use Rattle.gt_front.proofs.Serving.{served_as, serves_refused, serves_done, serves_fault, serves_short}
 use Rattle.gt_front.proofs.serve.serve_picked.Goals as goal

@@ -1,9 +1,9 @@
 use Rattle.std.proofs.Common.{subst, ℕ, List, Option, Err}
 use Rattle.gt_read.specs.File.{file}
-use Rattle.gt_front.specs.declared.answer.Role.TheVariants.{In, Input, Layout}
+use Rattle.command_words.specs.declared.role.Role.TheVariants.{In, Input, Layout}
 use Rattle.gt_front.specs.Inputs.{bytes_in}
 use Rattle.gt_front.specs.Sim.{SimsIr}
-use Rattle.gt_front.specs.Picked.{picked_view}
+use Rattle.command_words.specs.Picked.{picked_view}
 use Rattle.gt_front.specs.Reads.{contents_view}
 use Rattle.gt_front.specs.Stages.{Answers, meant}
 use Rattle.gt_front.proofs.Chains.{chain_goes, chain_stops}

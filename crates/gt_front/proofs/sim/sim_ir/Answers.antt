@@ -2,7 +2,7 @@ use Rattle.std.proofs.Common.{◌≡◌, subst, sym, Ok}
 use Rattle.sym_expr.specs.declared.program.Program.{Program}
 use Rattle.module_program.specs.Graphs.{program_in}
 use Rattle.gt_front.specs.Modules.{program_module}
-use Rattle.gt_front.specs.Picked.{picked_view}
+use Rattle.command_words.specs.Picked.{picked_view}
 use Rattle.gt_front.specs.Sim.{SimsProgram}
 use Rattle.gt_front.specs.Stages.{Answers, exactly}
 use Rattle.gt_front.proofs.Chains.{chain_goes}

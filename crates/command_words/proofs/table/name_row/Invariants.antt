@@ -1,0 +1,11 @@
+use Rattle.std.proofs.Common.{◌≡◌, drop, map}
+use Rattle.std.specs.List.{find}
+use Rattle.std.specs.Str.{bytes_eq}
+use Rattle.command_words.specs.Table.{name_words}
+use Rattle.command_words.proofs.table.name_row.Given as goal
+
+-- the rows that are left give the same
+abbrev pub invariant-loop-row : goal.invariant-loop-row
+invariant-loop-row l =
+    find (λ row. bytes_eq row.text l.text) (map (λ row. name_words row.0 row.1.now row.2) l.rows)
+    ≡ find (λ row. bytes_eq row.text l.text) (map (λ row. name_words row.0 row.1.now row.2) (drop l.row-index l.rows))

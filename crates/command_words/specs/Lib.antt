@@ -1,0 +1,5 @@
+pub mod Roles
+pub mod Table
+pub mod Numbers
+pub mod Words
+pub mod Picked

@@ -1,5 +1,0 @@
-use Rattle.gt_front.proofs.Usages.{ok_or_usage, ok_no_usage, one_usage}
-use Rattle.gt_front.proofs.laws.words_or_usage.Goals as goal
-
-pub returns : goal.returns
-returns c = record { some = ok_or_usage; apart = ok_no_usage; one = one_usage }

@@ -1,6 +1,0 @@
-use Rattle.gt_front.specs.Words.{FineBelow}
-use Rattle.gt_front.proofs.words.first_bad.Given as goal
-
--- the words so far keep the rules
-abbrev pub invariant-loop-index : goal.invariant-loop-index
-invariant-loop-index l = FineBelow l.words l.index

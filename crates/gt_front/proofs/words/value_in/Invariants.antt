@@ -1,7 +1,0 @@
-use Rattle.std.proofs.Common.{◌≡◌, drop}
-use Rattle.gt_front.specs.Words.{value_of}
-use Rattle.gt_front.proofs.words.value_in.Given as goal
-
--- what is left gives the name the same value
-abbrev pub invariant-loop-word : goal.invariant-loop-word
-invariant-loop-word l = value_of l.name l.words ≡ value_of l.name (drop l.word-index l.words)
