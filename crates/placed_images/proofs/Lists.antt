@@ -111,6 +111,14 @@ module _ {X : Type 0} where
   pairs_front R [] ys h = tt
   pairs_front R (x ∷ xs) ys h = (every_front (R x) xs ys h.0, pairs_front R xs ys h.1)
 
+  pub pairs_back : (R : X → X → Type 0) (xs ys : List X) → Pairs R (xs ++ ys) → Pairs R ys
+  pairs_back R [] ys h = h
+  pairs_back R (x ∷ xs) ys h = pairs_back R xs ys h.1
+
+  pub pairs_across : (R : X → X → Type 0) (xs ys : List X) → Pairs R (xs ++ ys) → Every (λ x. Every (R x) ys) xs
+  pairs_across R [] ys h = tt
+  pairs_across R (x ∷ xs) ys h = (every_back (R x) xs ys h.0, pairs_across R xs ys h.1)
+
   pub pairs_append : (R : X → X → Type 0) (xs ys : List X) → Pairs R xs → Every (λ x. Every (R x) ys) xs → Pairs R ys → Pairs R (xs ++ ys)
   pairs_append R [] ys h across k = k
   pairs_append R (x ∷ xs) ys h across k = (every_append (R x) xs ys h.0 across.0, pairs_append R xs ys h.1 across.1 k)

@@ -1,6 +1,6 @@
 //! What the image of a program has.
 
-ghost use Rattle.std.specs.Prelude.{◌≡◌, ◌∷◌, ℕ, List, None};
+ghost use Rattle.std.specs.Prelude.{◌≡◌, ◌<◌, ◌^◌, ◌∷◌, ℕ, List, None, length};
 ghost use Rattle.gt_model.specs.declared.ir.Ir.{Ir};
 ghost use Rattle.gt_model.specs.declared.modules.Module.{Module};
 ghost use Rattle.num_run.specs.Run.{start as start_of_image};
@@ -12,11 +12,14 @@ ghost use Rattle.sym_expr.specs.declared.program.Program.{Program};
 ghost use Rattle.sym_expr.specs.Images.{image, link_fault};
 ghost use Rattle.sym_expr.specs.Layouts.{accepted};
 ghost use Rattle.sym_expr.specs.Linkable.{formed};
+ghost use Rattle.sym_expr.specs.Modules.{loaded_intervals};
 ghost use Rattle.sym_expr.specs.Patches.{no_patches};
 ghost use Rattle.sym_expr.specs.Placing.{shape_of};
 ghost use Rattle.sym_expr.specs.Program.{program};
+ghost use Rattle.sym_expr.specs.TableOk.{ids_ok, table_ok, typed_patches};
 ghost use Rattle.sym_expr.specs.Tables.{Tables};
 ghost use Rattle.sym_expr.specs.WellMade.{well_made};
+ghost use Rattle.sym_expr.specs.declared.patches.PatchTable.{PatchTable as Patches};
 ghost use Rattle.placed_images.specs.Simulates.{Simulates};
 ghost use Rattle.placed_images.specs.Typed.{IsTyped, HasNearEntries};
 
@@ -38,6 +41,14 @@ pub fn programs_are_typed()
     ensures near { (ir : Ir) (m : Module) (t : Tables) → formed ir m t → HasNearEntries (program m t no_patches) }
 {
     sym_expr::laws::programs_are_well_made();
+}
+
+/// So has the program of such a module and of patches that it can take.
+pub fn patched_programs_are_typed()
+    ensures typed { (ir : Ir) (m : Module) (t : Tables) (p : Patches) → formed ir m t → typed_patches p → IsTyped (program m t p) }
+    ensures near { (ir : Ir) (m : Module) (t : Tables) (p : Patches) → formed ir m t → length (loaded_intervals m) < 2 ^ 39 → table_ok m p → ids_ok ir m p → HasNearEntries (program m t p) }
+{
+    sym_expr::laws::patched_programs_are_well_made();
 }
 
 /// The image of a program without a fault does what the symbolic machine of the program does.

@@ -11,7 +11,16 @@ pub mod Forms
 pub mod Stands
 pub mod Entered
 pub mod Sound
-pub mod Plain
+pub mod Identifiers
+pub mod Found
+pub mod Functions
+pub mod Sections
+pub mod Fresh
+pub mod Puts
+pub mod Aims
+pub mod Parts
+pub mod Known
 pub mod Made
+pub mod Unpatched
 pub mod WorkedImages
 mod WorkedRuns

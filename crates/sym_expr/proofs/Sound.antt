@@ -1,5 +1,5 @@
 -- What the checks of a module say of each loaded interval and its blocks.
-use Rattle.std.proofs.Common.{◌≡◌, ℕ, ◌≤◌, true, false, List, [], ◌∷◌, Some, refl, arith}
+use Rattle.std.proofs.Common.{◌≡◌, ℕ, ◌≤◌, true, false, List, [], ◌∷◌, Some, refl}
 use Rattle.std.specs.Prelude.{filter, find}
 use Rattle.std.specs.List.{AllByRecursion as Every, flat_map}
 use Rattle.std.proofs.lemmas.Bool.{ltb-false, both_ways}
@@ -104,17 +104,18 @@ all_sound ir m t h =
 
 -- ---- identifiers
 
-held_once : (f : Interval → List (List ℕ)) (ir : Ir) (m : Module) (t : Tables) → formed ir m t → ((id : List ℕ) (k : ℕ) (i : Interval) → HasNoBare i → times id (f i) ≤ held id (interval_nodes k i)) → (id : List ℕ) → times id (flat_map f (loaded_intervals m)) ≤ 1
-held_once f ir m t h less id =
+pub held_all : (f : Interval → List (List ℕ)) (ir : Ir) (m : Module) (t : Tables) → formed ir m t → ((id : List ℕ) (k : ℕ) (i : Interval) → HasNoBare i → times id (f i) ≤ held id (interval_nodes k i)) → (id : List ℕ) → times id (flat_map f (loaded_intervals m)) ≤ held id (nodes ir)
+held_all f ir m t h less id =
     let part = part_of m ir.modules 0 h.member in
-    let all = loaded_held id f ir m part
+    loaded_held id f ir m part
     (every_weaker (λ (s : Section). Every HasNoBare s.intervals) (λ (s : Section). Every (λ i. times id (f i) ≤ held id (interval_nodes part.ordinal i)) s.intervals)
-    (λ s l. every_weaker HasNoBare (λ i. times id (f i) ≤ held id (interval_nodes part.ordinal i)) (less id part.ordinal) s.intervals l) m.sections (module_whole ir m t h)) in
-    let most = once (ids (nodes ir)) h.linked.links.distinct id in
-    omega (arith, all, most)
+    (λ s l. every_weaker HasNoBare (λ i. times id (f i) ≤ held id (interval_nodes part.ordinal i)) (less id part.ordinal) s.intervals l) m.sections (module_whole ir m t h))
 
-pub intervals_once : (ir : Ir) (m : Module) (t : Tables) → formed ir m t → (id : List ℕ) → times id (flat_map interval_id_of (loaded_intervals m)) ≤ 1
-intervals_once ir m t h = held_once interval_id_of ir m t h (λ id k i whole. interval_held id k i)
+pub held_once : (ir : Ir) (m : Module) (t : Tables) → formed ir m t → (id : List ℕ) → held id (nodes ir) ≤ 1
+held_once ir m t h id = once (ids (nodes ir)) h.linked.links.distinct id
 
-pub blocks_once : (ir : Ir) (m : Module) (t : Tables) → formed ir m t → (id : List ℕ) → times id (flat_map block_ids_of (loaded_intervals m)) ≤ 1
-blocks_once ir m t h = held_once block_ids_of ir m t h block_held
+pub intervals_held : (ir : Ir) (m : Module) (t : Tables) → formed ir m t → (id : List ℕ) → times id (flat_map interval_id_of (loaded_intervals m)) ≤ held id (nodes ir)
+intervals_held ir m t h = held_all interval_id_of ir m t h (λ id k i whole. interval_held id k i)
+
+pub blocks_held : (ir : Ir) (m : Module) (t : Tables) → formed ir m t → (id : List ℕ) → times id (flat_map block_ids_of (loaded_intervals m)) ≤ held id (nodes ir)
+blocks_held ir m t h = held_all block_ids_of ir m t h block_held
