@@ -69,6 +69,8 @@ def program(entries, blocks):
     places = [text + struct.pack("<Q", index % (4 * BLOCKS)) for index in range(entries)]
     # Offsets repeat past the interval's size: keys must differ, so later ones name other identifiers.
     places = [place if index < 4 * BLOCKS else identifier(7, index) + place[16:] for index, place in enumerate(places)]
+    # In the order of a sorted map, as most writers leave tables: by identifier, then by offset.
+    places.sort(key=lambda place: (place[:16], struct.unpack("<Q", place[16:])))
     sizes = table(b"symbolicExpressionSizes", b"mapping<Offset,uint64_t>", [place + struct.pack("<Q", 8) for place in places])
     comments = table(b"comments", b"mapping<Offset,string>", [place + struct.pack("<Q", 4) + b"seen" for place in places])
     symbols = [run(9, run(1, identifier(2, index)), run(3, b"b%d" % index), run(5, identifier(1, index))) for index in range(BLOCKS)]

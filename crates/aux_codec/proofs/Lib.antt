@@ -1,4 +1,5 @@
 pub mod Again
+pub mod Ascending
 pub mod Chosen
 pub mod Halting
 pub mod Halts

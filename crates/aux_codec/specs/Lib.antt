@@ -1,4 +1,5 @@
 pub mod Faults
+pub mod Order
 pub mod Places
 pub mod Reading
 pub mod Spelling

@@ -4,6 +4,7 @@
 mod decode;
 mod encode;
 pub mod laws;
+mod order;
 mod part;
 mod places;
 mod scalar;

@@ -18,6 +18,7 @@ use gr_base::{End, Seq};
 use gt_model::Aux;
 use indexmap::IndexMap;
 use std::alloc::{AllocError, Global};
+use std::hash::Hash;
 use uuid::Uuid;
 
 /// What is found in tables: the Places in each, nothing for one whose type isn't parsed, and the entries of the two
@@ -29,57 +30,56 @@ pub struct Found {
     pub sizes: Option<IndexMap<(Uuid, u64), u64>>,
 }
 
-/// Keeps the numbers of a table of alignments, unless one came before.
-fn keep_alignment(
+/// The numbers of a table of alignments; nothing for another table.
+fn alignment_in(
     alloc: Global,
-    kept: &mut Option<IndexMap<Uuid, u64>>,
     table: &Aux,
     value: &Option<AuxValue>,
-) -> Result<(), AllocError>
+) -> Result<Option<IndexMap<Uuid, u64>>, AllocError>
     requires held { option_map value_of value.now ≡ table_value table.now }
     requires keys { IfSome value.now (λ x. HasOwnKeys (value_of x)) }
-    ensures { OnOk result (option_map entries_of kept.new ≡ option_or (option_map entries_of kept.old) (if is_alignment table.now then Some (numbers_at table.now) else None)) }
+    ensures { IfOk result (λ numbers. option_map entries_of numbers ≡ (if is_alignment table.now then Some (numbers_at table.now) else None)) }
 {
-    if kept.is_none() && is_alignment(table) {
-        *kept = Some(numbers_if(alloc, value)?);
+    if !is_alignment(table) {
+        return Ok(None);
     }
-    Ok(())
+    Ok(Some(numbers_if(alloc, value)?))
 }
 
-/// Keeps the sizes of a table of expressions' sizes, unless one came before.
-fn keep_sizes(
+/// The sizes of a table of expressions' sizes; nothing for another table.
+fn sizes_in(
     alloc: Global,
-    kept: &mut Option<IndexMap<(Uuid, u64), u64>>,
     table: &Aux,
     value: &Option<AuxValue>,
-) -> Result<(), AllocError>
+) -> Result<Option<IndexMap<(Uuid, u64), u64>>, AllocError>
     requires held { option_map value_of value.now ≡ table_value table.now }
     requires keys { IfSome value.now (λ x. HasOwnKeys (value_of x)) }
-    ensures { OnOk result (option_map entries_of kept.new ≡ option_or (option_map entries_of kept.old) (if is_sizes table.now then Some (sizes_at table.now) else None)) }
+    ensures { IfOk result (λ sizes. option_map entries_of sizes ≡ (if is_sizes table.now then Some (sizes_at table.now) else None)) }
 {
-    if kept.is_none() && is_sizes(table) {
-        *kept = Some(sizes_if(alloc, value)?);
+    if !is_sizes(table) {
+        return Ok(None);
     }
-    Ok(())
+    Ok(Some(sizes_if(alloc, value)?))
 }
 
-fn numbers_or_none(alloc: Global, kept: Option<IndexMap<Uuid, u64>>) -> IndexMap<Uuid, u64>
+/// Keeps entries, unless some came before.
+fn keep_first<K: Eq + Hash + Drop>(
+    kept: &mut Option<IndexMap<K, u64>>,
+    entries: Option<IndexMap<K, u64>>,
+)
+    ensures { option_map entries_of kept.new ≡ option_or (option_map entries_of kept.old) (option_map entries_of entries) }
+{
+    if kept.is_none() {
+        *kept = entries;
+    }
+}
+
+/// The entries that were kept, if any. It takes no memory.
+fn or_none<K: Eq + Hash>(alloc: Global, kept: Option<IndexMap<K, u64>>) -> IndexMap<K, u64>
     ensures { result.entries ≡ unwrap_or (option_map entries_of kept) [] }
 {
     match kept {
-        Some(numbers) => numbers,
-        None => IndexMap::new(alloc),
-    }
-}
-
-fn sizes_or_none(
-    alloc: Global,
-    kept: Option<IndexMap<(Uuid, u64), u64>>,
-) -> IndexMap<(Uuid, u64), u64>
-    ensures { result.entries ≡ unwrap_or (option_map entries_of kept) [] }
-{
-    match kept {
-        Some(sizes) => sizes,
+        Some(entries) => entries,
         None => IndexMap::new(alloc),
     }
 }
@@ -102,8 +102,10 @@ impl Found {
         ensures found { OnOk result ((before : List AuxOf) → IsFound before self.old → IsFound (before ++ table.now ∷ []) self.new) }
     {
         let value = read_table(alloc, table)?;
-        keep_alignment(alloc, &mut self.alignment, table, &value)?;
-        keep_sizes(alloc, &mut self.sizes, table, &value)?;
+        let alignment = alignment_in(alloc, table, &value)?;
+        let sizes = sizes_in(alloc, table, &value)?;
+        keep_first(&mut self.alignment, alignment);
+        keep_first(&mut self.sizes, sizes);
         self.places.push(places_in(alloc, &value)?)?;
         Ok(())
     }
@@ -119,8 +121,8 @@ impl Found {
             sizes,
         } = self;
         let tables = ProgramTables {
-            alignment: numbers_or_none(alloc, alignment),
-            sizes: sizes_or_none(alloc, sizes),
+            alignment: or_none(alloc, alignment),
+            sizes: or_none(alloc, sizes),
         };
         (places, tables)
     }
