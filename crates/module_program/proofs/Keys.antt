@@ -11,7 +11,7 @@ use Rattle.module_program.specs.Entries.{block_entry, symbol_entry}
 use Rattle.module_program.specs.Keyed.{value_at}
 use Rattle.module_program.specs.Naming.{symbol_base, symbol_of}
 
-map_cond : {A B : Type 0} (f : A → B) (t : Bool) (x : A) (o : Option A) → option_map f (cond t (Some x) o) ≡ cond t (Some (f x)) (option_map f o)
+pub map_cond : {A B : Type 0} (f : A → B) (t : Bool) (x : A) (o : Option A) → option_map f (cond t (Some x) o) ≡ cond t (Some (f x)) (option_map f o)
 map_cond f true x o = refl
 map_cond f false x o = refl
 

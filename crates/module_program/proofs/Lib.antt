@@ -4,3 +4,8 @@ pub mod Steps
 pub mod Keys
 pub mod Near
 pub mod Sections
+pub mod Cuts
+pub mod Labels
+pub mod Inserts
+pub mod Builds
+pub mod Fits

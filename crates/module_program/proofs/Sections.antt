@@ -1,55 +1,38 @@
--- The intervals of sections, one section further, where the patches bring no functions; what a context without inserts knows.
-use Rattle.std.proofs.Common.{◌≡◌, ℕ, zero, suc, ◌+◌, ◌<◌, Bool, true, false, List, [], ◌∷◌, ◌++◌, map, length, get_or, take, Option, Some, None, refl, sym, ap, subst, ◌∙◌, append-nil, arith}
-use Rattle.std.specs.Prelude.{filter, if◌then◌else◌}
-use Rattle.std.specs.List.{flat_map, AllByRecursion}
+-- The intervals of sections, one section further; what symbols name.
+use Rattle.std.proofs.Common.{◌≡◌, ℕ, zero, suc, ◌+◌, ◌<◌, Bool, true, false, List, [], ◌∷◌, ◌++◌, length, get_or, take, Option, Some, None, refl, sym, ap, subst, ◌∙◌, append-nil, arith}
+use Rattle.std.specs.Prelude.{filter, unwrap_or, if◌then◌else◌}
+use Rattle.std.specs.List.{flat_map, list_any, AllByRecursion}
 use Rattle.std.specs.Option.{option_map, option_map_or}
-use Rattle.std.specs.Str.{bytes_eq}
 use Rattle.std.proofs.lemmas.Bool.{cond-true, cond-false}
 use Rattle.std.proofs.lemmas.List.{take_more}
+use Rattle.std.proofs.lemmas.List.Concat.{flat_map-append}
 use Rattle.std.proofs.lemmas.List.Elements.{filter-append}
 use Rattle.gt_model.specs.declared.intervals.Block.{Block}
+use Rattle.gt_model.specs.declared.intervals.Interval.{Interval}
 use Rattle.gt_model.specs.declared.modules.Module.{Module}
 use Rattle.gt_model.specs.declared.modules.Section.{Section}
 use Rattle.gt_model.specs.declared.symbols.Payload.{Payload}
 use Rattle.gt_model.specs.declared.symbols.Payload.TheVariants as payloads
 use Rattle.gt_model.specs.declared.symbols.Symbol.{Symbol}
-use Rattle.module_program.specs.Naming.{block_base, payload_base, symbol_base, count_at}
-use Rattle.module_program.specs.Knowing.{inserted_words}
-use Rattle.module_program.proofs.Steps.{flat_map-append}
-use Rattle.sym_expr.specs.declared.patches.Function.{Function}
-use Rattle.sym_expr.specs.declared.patches.Insert.{Insert}
+use Rattle.module_program.specs.Naming.{block_base, payload_base, symbol_base}
 use Rattle.sym_expr.specs.declared.patches.PatchTable.{PatchTable}
-use Rattle.sym_expr.specs.declared.patches.PatchWord.{PatchWord}
-use Rattle.sym_expr.specs.declared.program.Stretch.{Stretch}
-use Rattle.sym_expr.specs.declared.program.Word.{Word}
 use Rattle.sym_expr.specs.declared.target.Target.{Target}
 use Rattle.sym_expr.specs.declared.target.Target.TheVariants.{Address, Code, Undefined}
-use Rattle.sym_expr.specs.Modules.{is_loaded, is_code, id_of, size_of}
-use Rattle.sym_expr.specs.Patches.{inserted_at}
-use Rattle.sym_expr.specs.Program.{stretch, function_stretch, section_stretches, has_entry, patched_word}
+use Rattle.sym_expr.specs.Modules.{has_id, is_loaded, is_code, id_of, size_of}
+use Rattle.sym_expr.specs.Program.{has_entry, section_stretches}
 use Rattle.sym_expr.specs.Tables.{Tables}
 use Rattle.sym_expr.specs.Targets.{point, start_of}
 
-nothing : (t : Bool) (none : List Stretch) → none ≡ [] → (if t then none else []) ≡ []
-nothing true none e = e
-nothing false none e = refl
-
--- without functions a section has its intervals alone
-pub no_functions : (m : Module) (t : Tables) (p : PatchTable) (s : Section) → p.functions ≡ [] → section_stretches m t p s ≡ map (stretch m t p) s.intervals
-no_functions m t p s none =
-    let made = map (stretch m t p) s.intervals in
-    ap (λ (fs : List Function). made ++ (if has_entry m s then map (function_stretch m p) fs else [])) none
-    ∙ ap (λ ss. made ++ ss) (nothing (has_entry m s) [] refl)
-    ∙ append-nil made
-
--- one section, with its intervals where it is loaded
-pub one_loaded : (m : Module) (t : Tables) (p : PatchTable) (s : Section) → p.functions ≡ [] → is_loaded s ≡ true → map (stretch m t p) s.intervals ≡ flat_map (section_stretches m t p) (filter is_loaded (s ∷ []))
-one_loaded m t p s none loaded =
-    sym (no_functions m t p s none) ∙ sym (append-nil (section_stretches m t p s))
-    ∙ ap (flat_map (section_stretches m t p)) (sym (cond-true (is_loaded s) (s ∷ []) [] loaded))
+-- one section, with its intervals and, where it has the entry, the functions, where it is loaded
+pub one_loaded : (m : Module) (t : Tables) (p : PatchTable) (s : Section) → is_loaded s ≡ true → section_stretches m t p s ≡ flat_map (section_stretches m t p) (filter is_loaded (s ∷ []))
+one_loaded m t p s loaded = sym (append-nil (section_stretches m t p s)) ∙ ap (flat_map (section_stretches m t p)) (sym (cond-true (is_loaded s) (s ∷ []) [] loaded))
 
 pub one_skipped : (m : Module) (t : Tables) (p : PatchTable) (s : Section) → is_loaded s ≡ false → [] ≡ flat_map (section_stretches m t p) (filter is_loaded (s ∷ []))
 one_skipped m t p s loaded = ap (flat_map (section_stretches m t p)) (sym (cond-false (is_loaded s) (s ∷ []) [] loaded))
+
+-- the section has the block of an identifier, and so the entry, where that is it
+pub entry_in : (m : Module) (s : Section) (id : List ℕ) → m.entry ≡ Some id → list_any (λ (i : Interval). list_any (has_id id) i.blocks) s.intervals ≡ has_entry m s
+entry_in m s id e = ap (λ (o : Option (List ℕ)). list_any (λ (i : Interval). list_any (has_id (unwrap_or o [])) i.blocks) s.intervals) (sym e)
 
 pub loaded_more : {X A : Type 0} (f : X → List A) (p : X → Bool) (xs : List X) (k : ℕ) (s : X) → k < length xs → s ≡ get_or xs k s
     → flat_map f (filter p (take (k + 1) xs)) ≡ flat_map f (filter p (take k xs)) ++ flat_map f (filter p (s ∷ []))
@@ -78,15 +61,6 @@ pub bases_same : (count other : List ℕ → ℕ → ℕ) (found find : List ℕ
     → ((b : List ℕ) (at : ℕ) → count b at ≡ other b at) → ((id : List ℕ) → found id ≡ find id) → option_map (symbol_base count found) o ≡ option_map (symbol_base other find) o
 bases_same count other found find None same blocks = refl
 bases_same count other found find (Some s) same blocks = ap (λ (t : Target). Some t) (base_payload_same count other found find s s.payload same blocks)
-
--- patches without inserts insert nothing
-pub none_counted : (p : PatchTable) (block : List ℕ) (offset : ℕ) → p.inserts ≡ [] → 0 ≡ count_at p block offset
-none_counted p block offset none =
-    sym (ap (λ (is : List Insert). length (inserted_at offset (flat_map (λ (i : Insert). map (λ (w : PatchWord). (i.offset, w)) i.body) (filter (λ (i : Insert). bytes_eq i.block block) is)))) none)
-
-pub none_inserted : (m : Module) (p : PatchTable) (block : List ℕ) → p.inserts ≡ [] → [] ≡ inserted_words m p block
-none_inserted m p block none =
-    sym (ap (λ (is : List Insert). map (λ (w : ℕ × PatchWord). let v : ℕ × Word = (w.0, patched_word m p w.1) in v) (flat_map (λ (i : Insert). map (λ (w : PatchWord). (i.offset, w)) i.body) (filter (λ (i : Insert). bytes_eq i.block block) is))) none)
 
 -- what holds of each holds of the one at a place, as a loop comes to it
 holds_at : {X : Type 0} (P : X → Type 0) (xs : List X) (k : ℕ) (d : X) → AllByRecursion P xs → k < length xs → P (get_or xs k d)

@@ -1,6 +1,5 @@
 -- One step more of what a program lists in order.
-use Rattle.std.proofs.Common.{◌≡◌, ℕ, zero, suc, ◌+◌, ◌*◌, List, [], ◌∷◌, ◌++◌, refl, sym, ap, ◌∙◌, add-one, append_assoc, arith}
-use Rattle.std.specs.List.{flat_map}
+use Rattle.std.proofs.Common.{◌≡◌, ℕ, zero, suc, ◌+◌, ◌*◌, List, [], ◌∷◌, ◌++◌, ap, ◌∙◌, add-one, arith}
 use Rattle.gt_model.specs.declared.intervals.Interval.{Interval}
 use Rattle.gt_model.specs.declared.modules.Module.{Module}
 use Rattle.sym_expr.specs.declared.patches.PatchTable.{PatchTable}
@@ -24,7 +23,3 @@ words_next m p i at (suc k) =
 
 pub words_more : (m : Module) (p : PatchTable) (i : Interval) (at k : ℕ) → own_words m p i at (k + 1) ≡ own_words m p i at k ++ own_word m p i (at + 4 * k) ∷ []
 words_more m p i at k = rw add-one (words_next m p i at k)
-
-pub flat_map-append : {X A : Type 0} (f : X → List A) (xs ys : List X) → flat_map f (xs ++ ys) ≡ flat_map f xs ++ flat_map f ys
-flat_map-append f [] ys = refl
-flat_map-append f (x ∷ xs) ys = ap (λ zs. f x ++ zs) (flat_map-append f xs ys) ∙ sym (append_assoc (f x) (flat_map f xs) (flat_map f ys))

@@ -1,6 +1,9 @@
 pub mod Between
+pub mod Building
+pub mod Cutting
 pub mod Entries
 pub mod Graphs
+pub mod Inserting
 pub mod Keyed
 pub mod Knowing
 pub mod Naming

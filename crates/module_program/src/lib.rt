@@ -3,12 +3,16 @@
 
 mod bytes;
 mod context;
+mod counts;
+mod cut;
 mod data;
 mod expressions;
 mod forms;
+mod functions;
 mod index;
-pub mod laws;
+mod inserted;
 mod loaded;
+mod names;
 mod order;
 mod pieces;
 mod symbols;

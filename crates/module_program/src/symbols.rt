@@ -7,6 +7,7 @@ ghost use Rattle.indexmap.specs.IndexMap.{get};
 ghost use Rattle.module_program.specs.Entries.{symbol_entry};
 ghost use Rattle.module_program.specs.Naming.{block_base, count_in, symbol_base, symbol_of};
 
+use crate::counts::count_in;
 use crate::index::index_of;
 use crate::order::{id_of, is_code, size_of};
 use gt_model::{Block, Payload, Symbol};
@@ -14,13 +15,6 @@ use indexmap::IndexMap;
 use std::alloc::{AllocError, Global};
 use sym_expr::{Point, Target};
 use uuid::Uuid;
-
-/// How many words are inserted at an offset of a block.
-fn count_in(counts: &IndexMap<(Uuid, u64), u64>, block: Uuid, offset: u64) -> u64
-    ensures { result ≡ count_in counts.now block offset }
-{
-    counts.get(&(block, offset)).copied().unwrap_or(0)
-}
 
 /// The start of a block, or its end behind what is inserted there.
 fn block_base(counts: &IndexMap<(Uuid, u64), u64>, at_end: bool, block: &Block) -> Target

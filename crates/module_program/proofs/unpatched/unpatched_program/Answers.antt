@@ -20,5 +20,5 @@ well_of m p none well (Err e) same = tt
 pub returns-clause-well : goal.returns-clause-well
 returns-clause-well c =
     let g = c.args.graph.now in
-    let m = plain_module g (module_at g c.args.module) in
-    well_of m _ c.no_patches-none.ensures (c.programs_are_well_made.ensures (ir_of g) m (tables_of m) c.requires.formed) c.program_of.result c.program_of.ensures.value
+    let m = plain_module g (module_at g c.args.id) in
+    well_of m _ c.no_patches-none.ensures (c.programs_are_well_made.ensures (ir_of g) m (tables_of m) c.requires.formed) c.program_of.result c.program_of.ensures
