@@ -105,7 +105,8 @@ Leads s (rows.BrBlrRet which rn) = IsCodePoint (register false rn s)
 Leads s (rows.SvcBrk which imm16) = moved_by_call s ≢ 0 → Reaches s (moved_by_call s) (register false 1 s)
 Leads s other = Unit {0}
 
--- all flags are known, what the instruction reads is numbers, and what it accesses are known bytes
+-- all flags are known, what the instruction reads is numbers, what it accesses are known bytes, and what it jumps to or
+-- what a call of the system moves is there
 pub record IsPlain (g : Program) (s : State) (i : Inst) : Type 0 where
   pub flags : IsTrue (all_known s.flags)
   pub numbers : AllByRecursion (λ (r : Bool × ℕ). IsNumber (register r.0 r.1 s)) (numbers_of i)

@@ -17,7 +17,8 @@ pub fn what_asks_nothing_goes_on()
 {}
 
 /// A step is never stuck where the word has no expression and forms no target, all flags are known, what it reads is
-/// numbers, and what it accesses are known bytes of the object that an address leads to.
+/// numbers, what it accesses are known bytes of the object that an address leads to, a jump by a register leads to a
+/// point of the code, and a call of the system that moves bytes finds them all known in one object.
 pub fn what_is_plain_goes_on()
     ensures { (g : Program) (s : State) (w : Word) (i : Inst) → word_at g (reached g s.place) ≡ Some w → w.target ≡ None → row w.word ≡ Some i → forms_target i ≡ false → IsPlain g s i → IsTrue (not (is_stuck (step g s))) }
 {}
