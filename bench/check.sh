@@ -1,14 +1,14 @@
 #!/usr/bin/env bash
 # Times `check` of programs of 100,000 blocks, symbols and expressions with two tables of 10^5 and 10^6 entries in all,
-# beside `recode` of the same file, and prints the growth. The same with the blocks in descending order and all at one
-# offset. Run it after `rt ci`, which leaves the program that is timed, or name a program as the first word.
+# beside `recode` of the same file, and prints the growth. The same with tables that aren't sorted, and with the blocks in
+# descending order and all at one offset. Run it after `rt ci`, which leaves the program that is timed, or name a program as the first word.
 set -eu
 cd "$(dirname "$0")/.."
 program=${1:-crates/gtirb_a64/out/gtirb_a64}
 [ -x "$program" ] || { echo "bench: $program is missing: run rt ci first"; exit 1; }
 work=$(mktemp -d)
 trap 'rm -rf "$work"' EXIT
-for kind in program descending one-offset; do
+for kind in program unsorted-tables descending one-offset; do
     for entries in 100000 1000000; do
         python3 bench/files.py "$kind" "$entries" "$work/$kind $entries"
     done
@@ -30,7 +30,7 @@ def best(command, runs=5):
     return min(times), peak
 
 os.dup2(os.open(os.devnull, os.O_WRONLY), 2)
-for kind in ("program", "descending", "one-offset"):
+for kind in ("program", "unsorted-tables", "descending", "one-offset"):
     checks = []
     for entries in (100000, 1000000):
         file = f"{work}/{kind} {entries}"

@@ -62,15 +62,16 @@ def table(name, type_name, entries):
     return run(17, run(1, name), run(2, run(1, type_name), run(2, struct.pack("<Q", len(entries)), b"".join(entries))))
 
 
-def program(entries, blocks):
-    """100,000 blocks, each with a symbol and, where it isn't empty, a branch to the next; two tables of so many entries in all."""
+def program(entries, blocks, is_sorted=True):
+    """100,000 blocks, each with a symbol and, where it isn't empty, a branch to the next; two tables of so many entries in
+    all, in the order of a sorted map, by identifier and then by offset, or else with keys that ascend in part only."""
     entries //= 2
     text = identifier(4, 0)
     places = [text + struct.pack("<Q", index % (4 * BLOCKS)) for index in range(entries)]
     # Offsets repeat past the interval's size: keys must differ, so later ones name other identifiers.
     places = [place if index < 4 * BLOCKS else identifier(7, index) + place[16:] for index, place in enumerate(places)]
-    # In the order of a sorted map, as most writers leave tables: by identifier, then by offset.
-    places.sort(key=lambda place: (place[:16], struct.unpack("<Q", place[16:])))
+    if is_sorted:
+        places.sort(key=lambda place: (place[:16], struct.unpack("<Q", place[16:])))
     sizes = table(b"symbolicExpressionSizes", b"mapping<Offset,uint64_t>", [place + struct.pack("<Q", 8) for place in places])
     comments = table(b"comments", b"mapping<Offset,string>", [place + struct.pack("<Q", 4) + b"seen" for place in places])
     symbols = [run(9, run(1, identifier(2, index)), run(3, b"b%d" % index), run(5, identifier(1, index))) for index in range(BLOCKS)]
@@ -90,6 +91,10 @@ def in_order(entries):
     return program(entries, [block(index, 4 * index, 4) for index in range(BLOCKS)])
 
 
+def unsorted_tables(entries):
+    return program(entries, [block(index, 4 * index, 4) for index in range(BLOCKS)], is_sorted=False)
+
+
 def descending(entries):
     return program(entries, [block(index, 4 * index, 4) for index in reversed(range(BLOCKS))])
 
@@ -107,7 +112,7 @@ def intervals(count):
     return run(1, identifier(6, 0)) + module + number(6, 4)
 
 
-KINDS = {"nodes": many_nodes, "contents": large_contents, "intervals": intervals, "program": in_order, "descending": descending, "one-offset": at_one_offset}
+KINDS = {"nodes": many_nodes, "contents": large_contents, "intervals": intervals, "program": in_order, "unsorted-tables": unsorted_tables, "descending": descending, "one-offset": at_one_offset}
 
 if __name__ == "__main__":
     kind, size, path = sys.argv[1:]
