@@ -2,6 +2,7 @@
 #![tactic(auto)]
 
 mod machine;
+mod module_run;
 mod next;
 mod program_run;
 mod report;
@@ -9,6 +10,7 @@ mod steps;
 
 pub use a64_inst::Trap;
 pub use machine::SymMachine;
+pub use module_run::run_symbolic;
 pub use program_run::run_program;
 pub use report::{Next, SymEnd, SymReport};
 pub use sym_expr::{Cause, Point};

@@ -43,7 +43,7 @@ impl<'a> SymMachine<'a> {
     ghost use Rattle.sym_run.specs.Opened.{held, report};
 
     /// The machine before the first instruction of a program, with a stack of so many bytes.
-    pub fn open(
+    pub fn over(
         alloc: Global,
         program: Program,
         stack: u64,

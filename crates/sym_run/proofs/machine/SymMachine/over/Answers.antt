@@ -2,7 +2,7 @@ use Rattle.std.proofs.Common.{arith}
 use Rattle.a64_inst.specs.Runs.{onward}
 use Rattle.sym_expr.specs.States.{start}
 use Rattle.sym_run.proofs.Reached.{begun}
-use Rattle.sym_run.proofs.machine.SymMachine.open.Goals as goal
+use Rattle.sym_run.proofs.machine.SymMachine.over.Goals as goal
 
 pub invariant_of-result : goal.invariant_of-result
 unfolding onward
