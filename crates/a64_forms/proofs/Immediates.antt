@@ -1,9 +1,12 @@
 -- Immediates by what stands behind `#`.
-use Rattle.std.proofs.Common.{◌≡◌, ◌⊎◌, ◌↔◌, ℕ, ℤ, pos, ◌-ℤ◌, List, [], ◌∷◌, Option, Some, None, IfSome, IfNone, sym, ap, subst, refl, ◌∙◌, inl, inr, arith}
+use Rattle.std.proofs.Common.{◌≡◌, ◌⊎◌, ◌↔◌, ℕ, ℤ, pos, ◌-ℤ◌, Bool, true, false, IsTrue, List, [], ◌∷◌, Option, Some, None, IfSome, IfNone, sym, ap, subst, refl, ◌∙◌, inl, inr, arith}
+use Rattle.std.specs.Prelude.{◌≤ℤ◌}
 use Rattle.a64_inst.specs.declared.kind.Operand.{Operand}
 use Rattle.a64_forms.specs.Bits.{IsMask, number_bits}
-use Rattle.a64_forms.specs.Number.{IsNumber, IsDecimal, IsHexadecimal}
-use Rattle.a64_forms.specs.Spelling.{IsImmediate, IsMaskOf, IsNumberOf, Spelled, spelled}
+use Rattle.a64_forms.specs.Number.{IsNumber, IsNumberWord, IsDecimal, IsHexadecimal}
+use Rattle.a64_forms.specs.declared.form.Numbers.{Numbers}
+use Rattle.a64_forms.specs.declared.form.Numbers.TheVariants.{Any}
+use Rattle.a64_forms.specs.Spelling.{IsImmediate, IsMaskAs, IsMaskIn, IsMaskOf, IsNumberAs, IsNumberIn, IsNumberOf, Spelled, spelled}
 
 pub heads : (a b : ℕ) (xs ys : List ℕ) → a ∷ xs ≡ b ∷ ys → a ≡ b
 heads a b xs ys e = cc
@@ -109,3 +112,63 @@ no_mask sf text digits e read s p =
     let same : p.0 ≡ digits = tails 35 35 p.0 digits (sym p.2 ∙ e) in
     let is : IsNumber digits p.1 = subst (λ (ds : List ℕ). IsNumber ds p.1) same p.3 in
     unlike p.1 ((read p.1).1 is)
+
+-- ---- any number word in an operand's place
+
+no_minus_word : (digits : List ℕ) → IsNumberWord (45 ∷ digits) → ⊥
+no_minus_word digits is = elim is [
+  | inl d ↦ let first = d.1.0 in absurd (omega (arith, first))
+  | inr h ↦ let e : 45 ≡ 48 = heads 45 48 _ _ h.1 in absurd (omega (arith, e))
+]
+
+pub minus_in : (o : Operand) (text digits : List ℕ) (b : Bool) → text ≡ 35 ∷ 45 ∷ digits → (IsTrue b ↔ ((o.least ≤ℤ pos 0) × IsNumberWord digits)) → IsTrue b ↔ IsNumberIn o text (spelled 0 None)
+unfolding IsNumberIn
+minus_in o text digits b e test = (
+  λ t. let q = test.0 t in (digits, q.1, inr (e, q.0), refl),
+  λ p. elim p.2 [
+    | inl q ↦ absurd (no_minus_word digits (subst IsNumberWord (tails 35 35 p.0 (45 ∷ digits) (sym q ∙ e)) p.1))
+    | inr q ↦ test.1 (q.1, subst IsNumberWord (tails 45 45 p.0 digits (tails 35 35 (45 ∷ p.0) (45 ∷ digits) (sym q.0 ∙ e))) p.1)
+  ],
+)
+
+pub plus_in : (o : Operand) (text digits : List ℕ) (b : Bool) → ((rest : List ℕ) → text ≡ 35 ∷ 45 ∷ rest → ⊥) → text ≡ 35 ∷ digits → (IsTrue b ↔ IsNumberWord digits) → IsTrue b ↔ IsNumberIn o text (spelled 0 None)
+unfolding IsNumberIn
+plus_in o text digits b other e test = (
+  λ t. (digits, test.0 t, inl e, refl),
+  λ p. elim p.2 [
+    | inl q ↦ test.1 (subst IsNumberWord (tails 35 35 p.0 digits (sym q ∙ e)) p.1)
+    | inr q ↦ absurd (other p.0 q.0)
+  ],
+)
+
+pub neither_in : (o : Operand) (text : List ℕ) → ((rest : List ℕ) → text ≡ 35 ∷ 45 ∷ rest → ⊥) → ((rest : List ℕ) → text ≡ 35 ∷ rest → ⊥) → IsTrue false ↔ IsNumberIn o text (spelled 0 None)
+unfolding IsNumberIn
+neither_in o text minus plus = (λ t. cc, λ p. elim p.2 [ inl q ↦ absurd (plus p.0 q) | inr q ↦ absurd (minus p.0 q.0) ])
+
+pub mask_in : (text digits : List ℕ) (b : Bool) → text ≡ 35 ∷ digits → (IsTrue b ↔ IsNumberWord digits) → IsTrue b ↔ IsMaskIn text (spelled 0 None)
+unfolding IsMaskIn
+mask_in text digits b e test = (
+  λ t. (digits, test.0 t, e, refl),
+  λ p. test.1 (subst IsNumberWord (tails 35 35 p.0 digits (sym p.2 ∙ e)) p.1),
+)
+
+pub no_mask_in : (text : List ℕ) → ((rest : List ℕ) → text ≡ 35 ∷ rest → ⊥) → IsTrue false ↔ IsMaskIn text (spelled 0 None)
+unfolding IsMaskIn
+no_mask_in text other = (λ t. cc, λ p. absurd (other p.0 p.2))
+
+pub no_other_number : (o : Operand) (text : List ℕ) → (IsNumberIn o text (spelled 0 None) → ⊥) → (s : Spelled) → IsNumberIn o text s → ⊥
+unfolding IsNumberIn
+no_other_number o text none s p = none (p.0, p.1, p.2, refl)
+
+pub no_other_mask : (text : List ℕ) → (IsMaskIn text (spelled 0 None) → ⊥) → (s : Spelled) → IsMaskIn text s → ⊥
+unfolding IsMaskIn
+no_other_mask text none s p = none (p.0, p.1, p.2, refl)
+
+-- where the test of a number word fails, nothing is there
+pub no_number_as : (n : Numbers) (o : Operand) (text : List ℕ) (b : Bool) → n ≡ Any → b ≡ false → (IsTrue b ↔ IsNumberIn o text (spelled 0 None)) → (s : Spelled) → IsNumberAs n o text s → ⊥
+no_number_as n o text b any fails test s p =
+    no_other_number o text (λ q. let yes : b ≡ true = test.1 q in absurd cc) s (subst (λ (m : Numbers). IsNumberAs m o text s) any p)
+
+pub no_mask_as : (n : Numbers) (sf : ℕ) (text : List ℕ) (b : Bool) → n ≡ Any → b ≡ false → (IsTrue b ↔ IsMaskIn text (spelled 0 None)) → (s : Spelled) → IsMaskAs n sf text s → ⊥
+no_mask_as n sf text b any fails test s p =
+    no_other_mask text (λ q. let yes : b ≡ true = test.1 q in absurd cc) s (subst (λ (m : Numbers). IsMaskAs m sf text s) any p)

@@ -2,6 +2,8 @@ mod Immediates
 mod Lists
 mod Numerals
 mod OfForms
+mod OneForm
 mod Pieces
+mod Tables
 mod Unique
 mod Wide

@@ -6,13 +6,14 @@ use Rattle.std.proofs.lemmas.Bool.Decides.{Decides-eqb}
 use Rattle.std.proofs.lemmas.Bool.{cases_lt}
 use Rattle.std.proofs.lemmas.List.{append_cancel_left, append_cancel_right}
 use Rattle.a64_forms.specs.declared.form.Slot.{Slot}
+use Rattle.a64_forms.specs.declared.form.Numbers.{Numbers}
 use Rattle.a64_forms.specs.Spelling.{IsPiece, IsSlot, Spelled, piece}
 
-pub piece_none : {A : Type 0} (first last text inside : List ℕ) (slot : Slot) (r : Option A) → text ≡ first ++ inside ++ last → IfNone r ((s : Spelled) → IsSlot slot inside s → ⊥) → IfNone r ((s : Spelled) → IsPiece (piece first slot last) text s → ⊥)
-piece_none first last text inside slot (Some x) e none = tt
-piece_none first last text inside slot None e none = λ s p.
+pub piece_none : {A : Type 0} (n : Numbers) (first last text inside : List ℕ) (slot : Slot) (r : Option A) → text ≡ first ++ inside ++ last → IfNone r ((s : Spelled) → IsSlot n slot inside s → ⊥) → IfNone r ((s : Spelled) → IsPiece n (piece first slot last) text s → ⊥)
+piece_none n first last text inside slot (Some x) e none = tt
+piece_none n first last text inside slot None e none = λ s p.
     let same : p.0 ≡ inside = append_cancel_left first p.0 inside (append_cancel_right (first ++ p.0) (first ++ inside) last (sym p.1 ∙ e)) in
-    none s (subst (λ (t : List ℕ). IsSlot slot t s) same p.2)
+    none s (subst (λ (t : List ℕ). IsSlot n slot t s) same p.2)
 
 pub kept_below : (P : ℕ → Type 0) (k : ℕ) → ((f : ℕ) → f < k → P f → ⊥) → (P k → ⊥) → (f : ℕ) → f < k + 1 → P f → ⊥
 kept_below P k below here f lt p = elim (cases_lt f k) [

@@ -9,7 +9,9 @@ use Rattle.a64_forms.specs.declared.form.Slot.{Slot}
 use Rattle.a64_forms.specs.declared.form.Slot.TheVariants as slots
 use Rattle.a64_forms.specs.Bits.{IsMask, number_bits, placed}
 use Rattle.a64_forms.specs.Number.{IsDecimal, IsHexadecimal, IsNumber}
-use Rattle.a64_forms.specs.Spelling.{ArePieces, IsImmediate, IsMaskOf, IsNumberOf, IsPiece, IsSlot, Piece, Spelled, both, spelled}
+use Rattle.a64_forms.specs.declared.form.Numbers.{Numbers}
+use Rattle.a64_forms.specs.declared.form.Numbers.TheVariants.{Fitting, Any}
+use Rattle.a64_forms.specs.Spelling.{ArePieces, IsImmediate, IsMaskAs, IsMaskIn, IsMaskOf, IsNumberAs, IsNumberIn, IsNumberOf, IsPiece, IsSlot, Piece, Spelled, both, spelled}
 use Rattle.a64_forms.proofs.Immediates.{no_minus, tails, values}
 
 -- decimal digits are no hexadecimal numeral
@@ -74,24 +76,34 @@ one_mask_of sf text s t p q =
     let mask : IsMask sf q.1 s.bits = subst (λ (n : ℕ). IsMask sf n s.bits) same p.4 in
     same_spelled s t (one_mask sf q.1 s.bits t.bits mask q.4) (p.5 ∙ sym q.5)
 
-one_slot : (slot : Slot) (text : List ℕ) (s t : Spelled) → IsSlot slot text s → IsSlot slot text t → s ≡ t
-one_slot (slots.Name list place) text s t p q = same_spelled s t (values s.bits t.bits (sym p.0 ∙ q.0)) (p.1 ∙ sym q.1)
-one_slot (slots.Number o) text s t p q = one_number_of o text s t p q
-one_slot (slots.Distance kind) text s t p q = one_number_of (operand kind) text s t p q
-one_slot (slots.Mask sf) text s t p q = one_mask_of sf text s t p q
-one_slot (slots.Aim aim) text s t p q = p.1 ∙ sym q.1
+one_number_as : (n : Numbers) (o : Operand) (text : List ℕ) (s t : Spelled) → IsNumberAs n o text s → IsNumberAs n o text t → s ≡ t
+unfolding IsNumberIn
+one_number_as Fitting o text s t p q = one_number_of o text s t p q
+one_number_as Any o text s t p q = p.3 ∙ sym q.3
 
-one_piece : (p : Piece) (text : List ℕ) (s t : Spelled) → IsPiece p text s → IsPiece p text t → s ≡ t
-one_piece p text s t h k =
+one_mask_as : (n : Numbers) (sf : ℕ) (text : List ℕ) (s t : Spelled) → IsMaskAs n sf text s → IsMaskAs n sf text t → s ≡ t
+unfolding IsMaskIn
+one_mask_as Fitting sf text s t p q = one_mask_of sf text s t p q
+one_mask_as Any sf text s t p q = p.3 ∙ sym q.3
+
+one_slot : (n : Numbers) (slot : Slot) (text : List ℕ) (s t : Spelled) → IsSlot n slot text s → IsSlot n slot text t → s ≡ t
+one_slot n (slots.Name list place) text s t p q = same_spelled s t (values s.bits t.bits (sym p.0 ∙ q.0)) (p.1 ∙ sym q.1)
+one_slot n (slots.Number o) text s t p q = one_number_as n o text s t p q
+one_slot n (slots.Distance kind) text s t p q = one_number_as n (operand kind) text s t p q
+one_slot n (slots.Mask sf) text s t p q = one_mask_as n sf text s t p q
+one_slot n (slots.Aim aim) text s t p q = p.1 ∙ sym q.1
+
+one_piece : (n : Numbers) (p : Piece) (text : List ℕ) (s t : Spelled) → IsPiece n p text s → IsPiece n p text t → s ≡ t
+one_piece n p text s t h k =
     let same : h.0 ≡ k.0 = append_cancel_left p.before h.0 k.0 (append_cancel_right (p.before ++ h.0) (p.before ++ k.0) p.behind (sym h.1 ∙ k.1)) in
-    one_slot p.slot k.0 s t (subst (λ (inside : List ℕ). IsSlot p.slot inside s) same h.2) k.2
+    one_slot n p.slot k.0 s t (subst (λ (inside : List ℕ). IsSlot n p.slot inside s) same h.2) k.2
 
-pub one_list : (ps : List Piece) (texts : List (List ℕ)) (s t : Spelled) → ArePieces ps texts s → ArePieces ps texts t → s ≡ t
+pub one_list : (n : Numbers) (ps : List Piece) (texts : List (List ℕ)) (s t : Spelled) → ArePieces n ps texts s → ArePieces n ps texts t → s ≡ t
 unfolding ArePieces
-one_list [] [] s t h k = h ∙ sym k
-one_list [] (text ∷ texts) s t h k = absurd h
-one_list (p ∷ ps) [] s t h k = absurd h
-one_list (p ∷ ps) (text ∷ texts) s t h k =
-    let first = one_piece p text h.0 k.0 h.2 k.2 in
-    let rest = one_list ps texts h.1 k.1 h.3 k.3 in
+one_list n [] [] s t h k = h ∙ sym k
+one_list n [] (text ∷ texts) s t h k = absurd h
+one_list n (p ∷ ps) [] s t h k = absurd h
+one_list n (p ∷ ps) (text ∷ texts) s t h k =
+    let first = one_piece n p text h.0 k.0 h.2 k.2 in
+    let rest = one_list n ps texts h.1 k.1 h.3 k.3 in
     h.4 ∙ ap (λ (a : Spelled). both a h.1) first ∙ ap (λ (b : Spelled). both k.0 b) rest ∙ sym k.4

@@ -1,19 +1,21 @@
 -- The spellings of instructions: the pieces of a line, which are its words, each cut behind its commas.
-use Rattle.std.specs.Prelude.{ℕ, ◌≡◌, ◌⊎◌, ℤ, pos, ◌-ℤ◌, Bool, true, false, ◌||◌, ◌==◌, IsTrue, List, [], ◌∷◌, ◌++◌, map, Option, Some, None, bit_or}
-use Rattle.std.specs.Char.{is_ascii_alphabetic}
+use Rattle.std.specs.Prelude.{ℕ, ◌≡◌, ◌⊎◌, ℤ, pos, ◌-ℤ◌, ◌≤ℤ◌, Bool, true, false, ◌||◌, ◌==◌, IsTrue, List, [], ◌∷◌, ◌++◌, map, Option, Some, None, bit_or}
+use Rattle.std.specs.Char.{is_ascii_alphabetic, is_ascii_lowercase}
 use Rattle.std.specs.List.{list_all}
 use Rattle.std.specs.Option.{option_map, option_or}
 use Rattle.a64_inst.specs.declared.kind.Operand.{Operand}
 use Rattle.a64_inst.specs.Kinds.{operand}
 use Rattle.a64_forms.specs.declared.form.Aim.{Aim}
 use Rattle.a64_forms.specs.declared.form.Apart.{Apart}
+use Rattle.a64_forms.specs.declared.form.Numbers.{Numbers}
+use Rattle.a64_forms.specs.declared.form.Numbers.TheVariants.{Fitting, Any}
 use Rattle.a64_forms.specs.declared.form.Slot.{Slot}
 use Rattle.a64_forms.specs.declared.form.Slot.TheVariants as slots
 use Rattle.a64_forms.specs.declared.forms.TheConstants.{IMMEDIATES, REGISTERS, BRANCHES, ACCESSES, INDEXED, PAIRS}
 use Rattle.a64_forms.specs.declared.share.Share.{Share as Held}
 use Rattle.a64_forms.specs.Bits.{IsMask, are_apart, number_bits, placed}
 use Rattle.a64_forms.specs.Names.{Name, name, named_bits, names_of}
-use Rattle.a64_forms.specs.Number.{IsNumber}
+use Rattle.a64_forms.specs.Number.{IsNumber, IsNumberWord}
 
 -- what a piece gives: bits of the word, and a target that it names
 pub record Spelled : Type 0 where
@@ -45,6 +47,25 @@ IsNumberOf o text s = (value : ℤ) × IsImmediate text value × (number_bits o 
 unfoldable pub IsMaskOf : ℕ → List ℕ → Spelled → Type 0
 IsMaskOf sf text s = (digits : List ℕ) × (value : ℕ) × (text ≡ 35 ∷ digits) × IsNumber digits value × IsMask sf value s.bits × (s.target ≡ None)
 
+-- a number word where the operand takes some number: behind a minus sign it takes 0 at least
+unfoldable pub IsNumberIn : Operand → List ℕ → Spelled → Type 0
+IsNumberIn o text s =
+    (digits : List ℕ) × IsNumberWord digits × ((text ≡ 35 ∷ digits) ⊎ ((text ≡ 35 ∷ 45 ∷ digits) × (o.least ≤ℤ pos 0)))
+    × (s ≡ spelled 0 None)
+
+-- a number word where some number is a logical immediate
+unfoldable pub IsMaskIn : List ℕ → Spelled → Type 0
+IsMaskIn text s = (digits : List ℕ) × IsNumberWord digits × (text ≡ 35 ∷ digits) × (s ≡ spelled 0 None)
+
+-- the number itself, or any in its place, which leaves its bits 0
+abbrev pub IsNumberAs : Numbers → Operand → List ℕ → Spelled → Type 0
+IsNumberAs Fitting o text s = IsNumberOf o text s
+IsNumberAs Any o text s = IsNumberIn o text s
+
+abbrev pub IsMaskAs : Numbers → ℕ → List ℕ → Spelled → Type 0
+IsMaskAs Fitting sf text s = IsMaskOf sf text s
+IsMaskAs Any sf text s = IsMaskIn text s
+
 -- a letter, `_`, `.` or `$`, with which a bare name begins, or the quote before one that is quoted
 abbrev pub is_name_start : ℕ → Bool
 is_name_start b = is_ascii_alphabetic b || b == 95 || b == 46 || b == 36 || b == 34
@@ -54,12 +75,17 @@ begins_name [] = false
 begins_name (b ∷ bytes) = is_name_start b
 
 -- the text is what the slot stands for, and gives this
-abbrev pub IsSlot : Slot → List ℕ → Spelled → Type 0
-IsSlot (slots.Name list place) text s = (option_map (placed place) (named_bits (names_of list) text) ≡ Some s.bits) × (s.target ≡ None)
-IsSlot (slots.Number o) text s = IsNumberOf o text s
-IsSlot (slots.Distance kind) text s = IsNumberOf (operand kind) text s
-IsSlot (slots.Mask sf) text s = IsMaskOf sf text s
-IsSlot (slots.Aim aim) text s = IsTrue (begins_name text) × (s ≡ spelled 0 (Some (aim, text)))
+abbrev pub IsSlot : Numbers → Slot → List ℕ → Spelled → Type 0
+IsSlot n (slots.Name list place) text s = (option_map (placed place) (named_bits (names_of list) text) ≡ Some s.bits) × (s.target ≡ None)
+IsSlot n (slots.Number o) text s = IsNumberAs n o text s
+IsSlot n (slots.Distance kind) text s = IsNumberAs n (operand kind) text s
+IsSlot n (slots.Mask sf) text s = IsMaskAs n sf text s
+IsSlot n (slots.Aim aim) text s = IsTrue (begins_name text) × (s ≡ spelled 0 (Some (aim, text)))
+
+-- a small letter stands first, as in each mnemonic
+abbrev pub begins_small : List ℕ → Bool
+begins_small [] = false
+begins_small (b ∷ bytes) = is_ascii_lowercase b
 
 -- a slot, with the text before and behind it
 pub record Piece : Type 0 where
@@ -71,15 +97,15 @@ abbrev pub piece : List ℕ → Slot → List ℕ → Piece
 piece before slot behind = record { before = before; slot = slot; behind = behind }
 
 -- the text is the piece, with what its slot stands for
-abbrev pub IsPiece : Piece → List ℕ → Spelled → Type 0
-IsPiece p text s = (inside : List ℕ) × (text ≡ p.before ++ inside ++ p.behind) × IsSlot p.slot inside s
+abbrev pub IsPiece : Numbers → Piece → List ℕ → Spelled → Type 0
+IsPiece n p text s = (inside : List ℕ) × (text ≡ p.before ++ inside ++ p.behind) × IsSlot n p.slot inside s
 
 -- the texts are the pieces one by one, and give this together
-unfoldable pub ArePieces : List Piece → List (List ℕ) → Spelled → Type 0
-ArePieces [] [] s = s ≡ spelled 0 None
-ArePieces [] (text ∷ texts) s = ⊥
-ArePieces (p ∷ ps) [] s = ⊥
-ArePieces (p ∷ ps) (text ∷ texts) s = (first : Spelled) × (rest : Spelled) × IsPiece p text first × ArePieces ps texts rest × (s ≡ both first rest)
+unfoldable pub ArePieces : Numbers → List Piece → List (List ℕ) → Spelled → Type 0
+ArePieces n [] [] s = s ≡ spelled 0 None
+ArePieces n [] (text ∷ texts) s = ⊥
+ArePieces n (p ∷ ps) [] s = ⊥
+ArePieces n (p ∷ ps) (text ∷ texts) s = (first : Spelled) × (rest : Spelled) × IsPiece n p text first × ArePieces n ps texts rest × (s ≡ both first rest)
 
 -- spellings that differ in their mnemonics alone: the mnemonics with the bits of their words, the pieces behind, and
 -- which registers differ
@@ -92,16 +118,16 @@ abbrev pub form : List Name → List Piece → List Apart → Form
 form mnemonics pieces apart = record { mnemonics = mnemonics; pieces = pieces; apart = apart }
 
 -- the texts are a mnemonic of the form and its pieces
-unfoldable pub Spells : Form → List (List ℕ) → Spelled → Type 0
-Spells f [] s = ⊥
-Spells f (text ∷ texts) s =
-    (word : ℕ) × (rest : Spelled) × (named_bits f.mnemonics text ≡ Some word) × ArePieces f.pieces texts rest
+unfoldable pub Spells : Numbers → Form → List (List ℕ) → Spelled → Type 0
+Spells n f [] s = ⊥
+Spells n f (text ∷ texts) s =
+    (word : ℕ) × (rest : Spelled) × (named_bits f.mnemonics text ≡ Some word) × ArePieces n f.pieces texts rest
     × (s ≡ both (spelled word None) rest) × (list_all (are_apart s.bits) f.apart ≡ true)
 
 -- one of the forms spells it
-unfoldable pub OneSpells : List Form → List (List ℕ) → Spelled → Type 0
-OneSpells [] texts s = ⊥
-OneSpells (f ∷ fs) texts s = Spells f texts s ⊎ OneSpells fs texts s
+unfoldable pub OneSpells : Numbers → List Form → List (List ℕ) → Spelled → Type 0
+OneSpells n [] texts s = ⊥
+OneSpells n (f ∷ fs) texts s = Spells n f texts s ⊎ OneSpells n fs texts s
 
 -- the forms of a table
 unfoldable pub immediates : List Form
@@ -123,20 +149,28 @@ unfoldable pub pairs : List Form
 pairs = map (λ f. form (map (λ n. name n.0.now n.1) f.0.now) (map (λ p. piece p.0.now p.1 p.2.now) f.1.now) f.2.now) PAIRS
 
 -- one of the forms of data processing spells it
-abbrev pub IsData : List (List ℕ) → Spelled → Type 0
-IsData texts s = OneSpells immediates texts s ⊎ OneSpells registers texts s
+abbrev pub IsData : Numbers → List (List ℕ) → Spelled → Type 0
+IsData n texts s = OneSpells n immediates texts s ⊎ OneSpells n registers texts s
 
 -- one of the forms of loads and stores spells it: of one register, by an offset in a register, or of a pair
-abbrev pub IsWide : List (List ℕ) → Spelled → Type 0
-IsWide texts s = OneSpells indexed texts s ⊎ OneSpells pairs texts s
+abbrev pub IsWide : Numbers → List (List ℕ) → Spelled → Type 0
+IsWide n texts s = OneSpells n indexed texts s ⊎ OneSpells n pairs texts s
 
-abbrev pub IsAccess : List (List ℕ) → Spelled → Type 0
-IsAccess texts s = OneSpells accesses texts s ⊎ IsWide texts s
+abbrev pub IsAccess : Numbers → List (List ℕ) → Spelled → Type 0
+IsAccess n texts s = OneSpells n accesses texts s ⊎ IsWide n texts s
 
 -- one of the forms of branches, loads and stores spells it
-abbrev pub IsFlow : List (List ℕ) → Spelled → Type 0
-IsFlow texts s = OneSpells branches texts s ⊎ IsAccess texts s
+abbrev pub IsFlow : Numbers → List (List ℕ) → Spelled → Type 0
+IsFlow n texts s = OneSpells n branches texts s ⊎ IsAccess n texts s
+
+-- the pieces of a line have the form of an instruction, with such numbers
+abbrev pub HasForm : Numbers → List (List ℕ) → Spelled → Type 0
+HasForm n texts s = IsData n texts s ⊎ IsFlow n texts s
 
 -- the pieces of a line spell a word, with the target that it names
 abbrev pub IsSpelling : List (List ℕ) → Spelled → Type 0
-IsSpelling texts s = IsData texts s ⊎ IsFlow texts s
+IsSpelling texts s = HasForm Fitting texts s
+
+-- they would spell a word with other numbers in the places of their number words
+abbrev pub IsShape : List (List ℕ) → Spelled → Type 0
+IsShape texts s = HasForm Any texts s

@@ -60,6 +60,15 @@ pub enum Slot {
     Aim(Aim),
 }
 
+/// Which numbers stand where a form has one.
+#[derive(Clone, Copy, Debug, PartialEq, Eq)]
+pub enum Numbers {
+    /// Those that fit.
+    Fitting,
+    /// Any number word, where some number fits; it leaves its bits 0.
+    Any,
+}
+
 /// The text before a slot, the slot, and the text behind it.
 pub type PieceRow = (&'static str, Slot, &'static str);
 

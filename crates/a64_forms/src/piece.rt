@@ -1,17 +1,17 @@
 //! Pieces of a line: a slot, with the text before and behind it.
 
-ghost use Rattle.std.specs.Prelude.{◌≡◌, ◌++◌, ◌∷◌, ◌↔◌, ℕ, ℤ, pos, ◌-ℤ◌, List, Some, None, Option, IsTrue, IfSome, IfNone, MatchOption, map, ◌≢◌};
+ghost use Rattle.std.specs.Prelude.{◌≡◌, ◌++◌, ◌∷◌, ◌↔◌, ℕ, ℤ, pos, ◌-ℤ◌, ◌≤ℤ◌, List, Some, None, Option, IsTrue, IfSome, IfNone, MatchOption, map, ◌≢◌};
 ghost use Rattle.std.specs.Option.{option_map};
 ghost use Rattle.a64_inst.specs.Kinds.{operand};
 ghost use Rattle.a64_forms.specs.Bits.{placed};
 ghost use Rattle.a64_forms.specs.Names.{name, named_bits, names_of};
-ghost use Rattle.a64_forms.specs.Number.{IsNumber};
+ghost use Rattle.a64_forms.specs.Number.{IsNumber, IsNumberWord};
 ghost use Rattle.a64_forms.specs.declared.form.Slot.TheVariants as slots;
-ghost use Rattle.a64_forms.specs.Spelling.{Spelled, IsImmediate, IsNumberOf, IsMaskOf, IsPiece, IsSlot, begins_name, held, piece, spelled};
+ghost use Rattle.a64_forms.specs.Spelling.{Spelled, IsImmediate, IsMaskAs, IsMaskIn, IsMaskOf, IsNumberAs, IsNumberIn, IsNumberOf, IsPiece, IsSlot, begins_name, held, piece, spelled};
 
 use crate::bits::{mask_bits, number_bits, placed};
-use crate::form::{Aim, NameRow, Names, PieceRow, Slot};
-use crate::number::read_number;
+use crate::form::{Aim, NameRow, Names, Numbers, PieceRow, Slot};
+use crate::number::{is_number_word, read_number};
 use crate::share::{Share, Target};
 use a64_inst::Operand;
 
@@ -96,6 +96,55 @@ fn mask_of(sf: u8, text: &[u8]) -> Option<u32>
     mask_bits(sf, value)
 }
 
+fn is_negative_in(operand: Operand, digits: &[u8]) -> bool
+    ensures { IsTrue result ↔ ((operand.least ≤ℤ pos 0) × IsNumberWord digits.now) }
+{
+    operand.least <= 0 && is_number_word(digits)
+}
+
+fn is_number_in(operand: Operand, text: &[u8]) -> bool
+    ensures { IsTrue result ↔ IsNumberIn operand text.now (spelled 0 None) }
+{
+    match behind(text, b"#-") {
+        Some(digits) => is_negative_in(operand, digits),
+        None => match behind(text, b"#") {
+            Some(digits) => is_number_word(digits),
+            None => false,
+        },
+    }
+}
+
+fn is_mask_in(text: &[u8]) -> bool
+    ensures { IsTrue result ↔ IsMaskIn text.now (spelled 0 None) }
+{
+    match behind(text, b"#") {
+        Some(digits) => is_number_word(digits),
+        None => false,
+    }
+}
+
+fn number_as(numbers: Numbers, operand: Operand, text: &[u8]) -> Option<u32>
+    ensures some { IfSome result (λ bits. IsNumberAs numbers operand text.now (spelled bits None)) }
+    ensures none { IfNone result ((s : Spelled) → IsNumberAs numbers operand text.now s → ⊥) }
+{
+    match numbers {
+        Numbers::Fitting => number_of(operand, text),
+        Numbers::Any if is_number_in(operand, text) => Some(0),
+        Numbers::Any => None,
+    }
+}
+
+fn mask_as(numbers: Numbers, sf: u8, text: &[u8]) -> Option<u32>
+    ensures some { IfSome result (λ bits. IsMaskAs numbers sf text.now (spelled bits None)) }
+    ensures none { IfNone result ((s : Spelled) → IsMaskAs numbers sf text.now s → ⊥) }
+{
+    match numbers {
+        Numbers::Fitting => mask_of(sf, text),
+        Numbers::Any if is_mask_in(text) => Some(0),
+        Numbers::Any => None,
+    }
+}
+
 fn begins_name(text: &[u8]) -> bool
     ensures { result ≡ begins_name text.now }
 {
@@ -105,9 +154,9 @@ fn begins_name(text: &[u8]) -> bool
     }
 }
 
-fn target_of(aim: Aim, text: &[u8]) -> Option<Share<'_>>
-    ensures some { IfSome result (λ s. IsSlot (slots.Aim aim) text.now (held s)) }
-    ensures none { IfNone result ((s : Spelled) → IsSlot (slots.Aim aim) text.now s → ⊥) }
+fn target_of(numbers: Numbers, aim: Aim, text: &[u8]) -> Option<Share<'_>>
+    ensures some { IfSome result (λ s. IsSlot numbers (slots.Aim aim) text.now (held s)) }
+    ensures none { IfNone result ((s : Spelled) → IsSlot numbers (slots.Aim aim) text.now s → ⊥) }
 {
     if begins_name(text) {
         let target = Some(Target { aim, text });
@@ -118,16 +167,16 @@ fn target_of(aim: Aim, text: &[u8]) -> Option<Share<'_>>
 }
 
 // What the text gives as what the slot stands for.
-fn read_slot(slot: Slot, text: &[u8]) -> Option<Share<'_>>
-    ensures some { IfSome result (λ s. IsSlot slot text.now (held s)) }
-    ensures none { IfNone result ((s : Spelled) → IsSlot slot text.now s → ⊥) }
+fn read_slot(numbers: Numbers, slot: Slot, text: &[u8]) -> Option<Share<'_>>
+    ensures some { IfSome result (λ s. IsSlot numbers slot text.now (held s)) }
+    ensures none { IfNone result ((s : Spelled) → IsSlot numbers slot text.now s → ⊥) }
 {
     let bits = match slot {
         Slot::Name(list, place) => name_bits(list, place, text)?,
-        Slot::Number(operand) => number_of(operand, text)?,
-        Slot::Distance(kind) => number_of(kind.operand(), text)?,
-        Slot::Mask(sf) => mask_of(sf, text)?,
-        Slot::Aim(aim) => return target_of(aim, text),
+        Slot::Number(operand) => number_as(numbers, operand, text)?,
+        Slot::Distance(kind) => number_as(numbers, kind.operand(), text)?,
+        Slot::Mask(sf) => mask_as(numbers, sf, text)?,
+        Slot::Aim(aim) => return target_of(numbers, aim, text),
     };
     Some(Share { bits, target: None })
 }
@@ -155,11 +204,11 @@ fn between<'a>(text: &'a [u8], first: &[u8], last: &[u8]) -> Option<&'a [u8]>
 }
 
 // What the text gives as this piece.
-pub(crate) fn read_piece<'a>(row: PieceRow, text: &'a [u8]) -> Option<Share<'a>>
-    ensures some { IfSome result (λ s. IsPiece (piece row.entry.0.now row.entry.1 row.entry.2.now) text.now (held s)) }
-    ensures none { IfNone result ((s : Spelled) → IsPiece (piece row.entry.0.now row.entry.1 row.entry.2.now) text.now s → ⊥) }
+pub(crate) fn read_piece<'a>(numbers: Numbers, row: PieceRow, text: &'a [u8]) -> Option<Share<'a>>
+    ensures some { IfSome result (λ s. IsPiece numbers (piece row.entry.0.now row.entry.1 row.entry.2.now) text.now (held s)) }
+    ensures none { IfNone result ((s : Spelled) → IsPiece numbers (piece row.entry.0.now row.entry.1 row.entry.2.now) text.now s → ⊥) }
 {
     let (first, slot, last) = row;
     let inside = between(text, first.as_bytes(), last.as_bytes())?;
-    read_slot(slot, inside)
+    read_slot(numbers, slot, inside)
 }

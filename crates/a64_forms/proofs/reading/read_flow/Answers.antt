@@ -7,7 +7,7 @@ pub returns-in-Some-clause-some : goal.returns-in-Some-clause-some
 returns-in-Some-clause-some c = inl c.in-Some.ensures.some
 
 pub returns-in-None-clause-some : goal.returns-in-None-clause-some
-returns-in-None-clause-some c = second_some (λ (s : Spelled). OneSpells branches c.args.texts.now s) (λ (s : Spelled). IsAccess c.args.texts.now s) c.read_access.result held c.read_access.ensures.some
+returns-in-None-clause-some c = second_some (λ (s : Spelled). OneSpells c.args.numbers branches c.args.texts.now s) (λ (s : Spelled). IsAccess c.args.numbers c.args.texts.now s) c.read_access.result held c.read_access.ensures.some
 
 pub returns-in-None-clause-none : goal.returns-in-None-clause-none
-returns-in-None-clause-none c = none_of_two (λ (s : Spelled). OneSpells branches c.args.texts.now s) (λ (s : Spelled). IsAccess c.args.texts.now s) c.read_access.result c.in-None.ensures.none c.read_access.ensures.none
+returns-in-None-clause-none c = none_of_two (λ (s : Spelled). OneSpells c.args.numbers branches c.args.texts.now s) (λ (s : Spelled). IsAccess c.args.numbers c.args.texts.now s) c.read_access.result c.in-None.ensures.none c.read_access.ensures.none

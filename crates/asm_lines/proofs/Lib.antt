@@ -1,0 +1,17 @@
+pub mod Cutting
+pub mod DecidedExpressions
+pub mod DecidedForms
+pub mod DecidedInstructions
+pub mod DecidedLabels
+pub mod DecidedLines
+pub mod DecidedNames
+pub mod DecidedNumbers
+pub mod DecidedSlots
+pub mod DecidedWords
+pub mod Decisions
+pub mod Escapes
+pub mod Fronts
+pub mod Offsets
+pub mod Runs
+pub mod Sayings
+pub mod Searches

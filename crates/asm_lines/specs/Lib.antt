@@ -1,0 +1,5 @@
+pub mod Expressions
+pub mod Instructions
+pub mod Labels
+pub mod Lines
+pub mod Texts
