@@ -6,6 +6,7 @@ use Rattle.sym_expr.specs.Steps.{step}
 use Rattle.sym_run.specs.declared.machine.SymMachine.TheInside.{Inside}
 use Rattle.sym_run.specs.Opened.{Opened}
 use Rattle.sym_run.specs.Standing.{StandsAt}
+use Rattle.sym_step.specs.Found.{IsCache}
 
 -- the machine as contracts see it
 abbrev pub opened : Inside → Opened
@@ -15,4 +16,5 @@ opened inside = record { program = inside.program; stack = inside.stack; input =
 pub record Stands (inside : Inside) : Type 0 where
   pub few : inside.done ≤ inside.count
   pub most : inside.count ≤ 10000000
+  pub cache : IsCache inside.program inside.cache
   pub reached : StandsAt inside.program (run (step inside.program) inside.count (start inside.program inside.stack inside.input.now)) inside.done inside.end inside.runner

@@ -7,7 +7,7 @@ use indexed_program::IndexedProgram;
 use std::alloc::{AllocError, Global};
 use std::marker::Model;
 use sym_expr::{Program, Value};
-use sym_step::Runner;
+use sym_step::{Cache, Runner};
 
 /// A machine that runs a program, and how far it has run.
 #[derive(Drop)]
@@ -17,6 +17,7 @@ pub struct SymMachine<'a> {
     input: &'a [u8],
     runner: Runner<'a>,
     values: Vec<Value>,
+    cache: Cache,
     /// How many steps were asked for.
     count: u64,
     /// How many instructions were done.
@@ -55,12 +56,14 @@ impl<'a> SymMachine<'a> {
     {
         let program = IndexedProgram::new(alloc, program)?;
         let runner = Runner::new(alloc, &program, stack, input)?;
+        let cache = Cache::new(alloc)?;
         Ok(SymMachine {
             program,
             stack,
             input,
             runner,
             values: Vec::new(alloc),
+            cache,
             count: 0,
             done: 0,
             end: SymEnd::Running,
@@ -74,7 +77,13 @@ impl<'a> SymMachine<'a> {
         ensures end { IfOk result (λ end. end ≡ (report self.new).end) }
         ensures err { OnErr result (self.new ≡ self.old) }
     {
-        let stop = step_on(&mut self.runner, &self.program, &mut self.values, self.end)?;
+        let stop = step_on(
+            &mut self.runner,
+            &self.program,
+            &mut self.values,
+            &mut self.cache,
+            self.end,
+        )?;
         self.done += stop.done;
         self.end = stop.end;
         self.count += 1;

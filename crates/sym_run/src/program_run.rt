@@ -8,7 +8,7 @@ use gr_base::Bytes;
 use indexed_program::IndexedProgram;
 use std::alloc::{AllocError, Global};
 use sym_expr::Program;
-use sym_step::Runner;
+use sym_step::{Cache, Runner};
 
 /// Runs a program for so many instructions, or fewer where the run ends before.
 #[tactic(auto, using(crate::proofs::Reached::begun, crate::proofs::Reached::seen_so))]
@@ -27,7 +27,15 @@ pub fn run_program(
     let program = IndexedProgram::new(alloc, program)?;
     let mut runner = Runner::new(alloc, &program, stack, input)?;
     let mut values = Vec::new(alloc);
-    let stop = go_on(&mut runner, &program, &mut values, SymEnd::Running, steps)?;
+    let mut cache = Cache::new(alloc)?;
+    let stop = go_on(
+        &mut runner,
+        &program,
+        &mut values,
+        &mut cache,
+        SymEnd::Running,
+        steps,
+    )?;
     Ok(SymReport {
         steps: stop.done,
         end: stop.end,

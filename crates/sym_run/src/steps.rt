@@ -8,13 +8,14 @@ ghost use Rattle.sym_expr.specs.States.{State};
 ghost use Rattle.sym_expr.specs.Steps.{step};
 ghost use Rattle.sym_run.specs.declared.report.SymEnd.TheVariants.{Running};
 ghost use Rattle.sym_run.specs.Standing.{done_at, end_at, StandsAt};
+ghost use Rattle.sym_step.specs.Found.{IsCache};
 ghost use Rattle.sym_step.specs.Runner.{state};
 
 use crate::report::SymEnd;
 use indexed_program::IndexedProgram;
 use std::alloc::AllocError;
 use sym_expr::{Point, Value};
-use sym_step::{Flow, Runner};
+use sym_step::{Cache, Flow, Runner};
 
 /// How many instructions were done, and how the run stands.
 #[derive(Drop)]
@@ -23,15 +24,15 @@ pub struct Stop {
     pub end: SymEnd,
 }
 
-/// How a run stands behind a step of a flow, at a point if it is stuck.
-fn end_at(at: Point, flow: Flow) -> SymEnd
-    ensures { result ≡ end_at at flow }
+/// How a run of a program stands behind a step of a flow, from this place on.
+fn end_at(program: &IndexedProgram, place: &Point, flow: Flow) -> SymEnd
+    ensures { result ≡ end_at (reached program.now place.now) flow }
 {
     match flow {
         Flow::On | Flow::Placed => SymEnd::Running,
         Flow::Exit(status) => SymEnd::Exit(status),
         Flow::Trap(why) => SymEnd::Trap(why),
-        Flow::Stuck(cause) => SymEnd::Stuck(at, cause),
+        Flow::Stuck(cause) => SymEnd::Stuck(program.reached(*place), cause),
     }
 }
 
@@ -52,12 +53,15 @@ pub fn do_step(
     runner: &mut Runner<'_>,
     program: &IndexedProgram,
     values: &mut Vec<Value>,
+    cache: &mut Cache,
 ) -> Result<SymEnd, AllocError>
+    requires { IsCache program.now cache.old }
+    ensures cache { IsCache program.now cache.new }
     ensures ok { IfOk result (λ end. (r : Run CauseOf State) (done : ℕ) → StandsAt program.now r done Running runner.old → StandsAt program.now (further (step program.now) r) (done + done_at end) end runner.new) }
     ensures err { OnErr result (state runner.new ≡ state runner.old) }
 {
-    let flow = runner.step(program, values)?;
-    Ok(end_at(program.reached(runner.place), flow))
+    let flow = runner.step(program, values, cache)?;
+    Ok(end_at(program, &runner.place, flow))
 }
 
 /// Does so many instructions, or fewer where the run ends before.
@@ -65,13 +69,16 @@ fn do_steps(
     runner: &mut Runner<'_>,
     program: &IndexedProgram,
     values: &mut Vec<Value>,
+    cache: &mut Cache,
     steps: u64,
 ) -> Result<Stop, AllocError>
+    requires { IsCache program.now cache.old }
+    ensures cache { IsCache program.now cache.new }
     ensures done { IfOk result (λ stop. stop.done ≤ steps) }
     ensures reached { IfOk result (λ stop. (r : Run CauseOf State) (before : ℕ) → StandsAt program.now r before Running runner.old → StandsAt program.now (onward (step program.now) steps r) (before + stop.done) stop.end runner.new) }
 {
     for done in 0..steps {
-        match do_step(runner, program, values)? {
+        match do_step(runner, program, values, cache)? {
             SymEnd::Running => {}
             end => {
                 let last = done_at(&end);
@@ -93,14 +100,17 @@ pub fn go_on(
     runner: &mut Runner<'_>,
     program: &IndexedProgram,
     values: &mut Vec<Value>,
+    cache: &mut Cache,
     end: SymEnd,
     steps: u64,
 ) -> Result<Stop, AllocError>
+    requires { IsCache program.now cache.old }
+    ensures cache { IsCache program.now cache.new }
     ensures done { IfOk result (λ stop. stop.done ≤ steps) }
     ensures reached { IfOk result (λ stop. (r : Run CauseOf State) (before : ℕ) → StandsAt program.now r before end runner.old → StandsAt program.now (onward (step program.now) steps r) (before + stop.done) stop.end runner.new) }
 {
     match end {
-        SymEnd::Running => do_steps(runner, program, values, steps),
+        SymEnd::Running => do_steps(runner, program, values, cache, steps),
         end => Ok(Stop { done: 0, end }),
     }
 }
@@ -110,15 +120,18 @@ pub fn step_on(
     runner: &mut Runner<'_>,
     program: &IndexedProgram,
     values: &mut Vec<Value>,
+    cache: &mut Cache,
     end: SymEnd,
 ) -> Result<Stop, AllocError>
+    requires { IsCache program.now cache.old }
+    ensures cache { IsCache program.now cache.new }
     ensures done { IfOk result (λ stop. stop.done ≤ 1) }
     ensures reached { IfOk result (λ stop. (r : Run CauseOf State) (before : ℕ) → StandsAt program.now r before end runner.old → StandsAt program.now (further (step program.now) r) (before + stop.done) stop.end runner.new) }
     ensures err { OnErr result (state runner.new ≡ state runner.old) }
 {
     match end {
         SymEnd::Running => {
-            let end = do_step(runner, program, values)?;
+            let end = do_step(runner, program, values, cache)?;
             let done = done_at(&end);
             Ok(Stop { done, end })
         }

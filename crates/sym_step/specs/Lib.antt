@@ -1,3 +1,4 @@
 pub mod Runner
 pub mod Order
 pub mod Room
+pub mod Found

@@ -1,22 +1,20 @@
 //! One step.
 
-ghost use Rattle.std.specs.Prelude.{◌≡◌, [], take, IsTrue, IsSome, IfOk, OnErr};
+ghost use Rattle.std.specs.Prelude.{◌≡◌, [], take, IfOk, OnErr};
 ghost use Rattle.a64_inst.specs.declared.trap.Trap.TheVariants.{Undecoded};
 ghost use Rattle.a64_inst.specs.Domain.{ended, exec, trapped};
-ghost use Rattle.a64_inst.specs.Meaning.{ops};
-ghost use Rattle.a64_inst.specs.Table.{is_allowed};
 ghost use Rattle.sym_expr.specs.declared.cause.Cause.{Cause as CauseOf};
-ghost use Rattle.sym_expr.specs.Points.{word_at};
 ghost use Rattle.sym_expr.specs.Symbolic.{symbolic};
 ghost use Rattle.sym_expr.specs.Steps.{step};
 ghost use Rattle.sym_step.specs.declared.flow.Flow.TheVariants.{Stuck};
+ghost use Rattle.sym_step.specs.Found.{IsCache, IsFound};
 ghost use Rattle.sym_step.specs.Runner.{came, Keeps, state};
 
+use crate::cache::{Cache, Found};
 use crate::flow::Flow;
 use crate::runner::Runner;
 use a64_decode::decode;
-use a64_inst::{Inst, Trap, laws};
-use a64_ops::ops;
+use a64_inst::{Trap, laws};
 use indexed_program::IndexedProgram;
 use std::alloc::AllocError;
 use sym_expr::{Cause, Point, Target, Value};
@@ -40,31 +38,26 @@ impl<'a> Runner<'a> {
         Flow::Trap(Trap::Undecoded)
     }
 
-    /// Does the instruction of the word at a point.
+    /// Does the instruction of what was found.
     fn execute(
         &mut self,
         program: &IndexedProgram,
         values: &mut Vec<Value>,
-        at: &Point,
-        named: Option<Target>,
-        inst: &Inst,
+        found: &Found,
     ) -> Result<Flow, AllocError>
-        requires inst { IsTrue (is_allowed inst.now) }
-        requires word { IsSome (word_at program.now at.now) }
-        ensures flows { IfOk result (λ flow. exec (symbolic program.now) (ops inst.now) [] (record (state self.old) { place = at.now; named = named }) ≡ came flow (state self.new)) }
+        requires { IsFound program.now found.now }
+        ensures flows { IfOk result (λ flow. exec (symbolic program.now) found.now.ops [] (record (state self.old) { place = found.now.at; named = found.now.named }) ≡ came flow (state self.new)) }
         ensures stuck { IfOk result (λ flow. (cause : CauseOf) → flow ≡ Stuck cause → Keeps self.old self.new) }
         ensures err { OnErr result (state self.new ≡ state self.old) }
     {
-        let list = ops(inst);
-        a64_ops::laws::operations_are_sound();
-        crate::laws::stores_come_early();
+        let ops = found.ops.as_slice();
         values.clear();
-        values.reserve(list.as_slice().len())?;
+        values.reserve(ops.len())?;
         let (place, before) = (self.place, self.named);
         let written = self.output.bytes.len();
-        self.place = *at;
-        self.named = named;
-        match self.exec_all(program, values, list.as_slice()) {
+        self.place = found.at;
+        self.named = found.named;
+        match self.exec_all(program, values, ops) {
             Ok(Flow::Stuck(cause)) => {
                 self.take_back(&place, written);
                 Ok(Flow::Stuck(cause))
@@ -78,13 +71,16 @@ impl<'a> Runner<'a> {
         }
     }
 
-    /// Does one step.
+    /// Does one step from a place of which nothing is kept, and keeps what is found of it.
     #[tactic(auto, unfolding(sym_expr::specs::Steps::step))]
-    pub fn step(
+    fn step_anew(
         &mut self,
         program: &IndexedProgram,
         values: &mut Vec<Value>,
+        cache: &mut Cache,
     ) -> Result<Flow, AllocError>
+        requires { IsCache program.now cache.old }
+        ensures cache { IsCache program.now cache.new }
         ensures flows { IfOk result (λ flow. step program.now (state self.old) ≡ came flow (state self.new)) }
         ensures stuck { IfOk result (λ flow. (cause : CauseOf) → flow ≡ Stuck cause → Keeps self.old self.new) }
         ensures err { OnErr result (state self.new ≡ state self.old) }
@@ -94,9 +90,31 @@ impl<'a> Runner<'a> {
             return Ok(Flow::Stuck(Cause::Fell));
         };
         laws::read_is_word();
-        match decode(word.word) {
-            Some(inst) => self.execute(program, values, &at, word.target, &inst),
-            None => Ok(self.undecoded(&at, word.target)),
+        let Some(inst) = decode(word.word) else {
+            return Ok(self.undecoded(&at, word.target));
+        };
+        let found = Found::new(&self.place, &at, &word, &inst);
+        let flow = self.execute(program, values, &found)?;
+        cache.put(found);
+        Ok(flow)
+    }
+
+    /// Does one step. What is found of its place is kept for later steps from there.
+    pub fn step(
+        &mut self,
+        program: &IndexedProgram,
+        values: &mut Vec<Value>,
+        cache: &mut Cache,
+    ) -> Result<Flow, AllocError>
+        requires { IsCache program.now cache.old }
+        ensures cache { IsCache program.now cache.new }
+        ensures flows { IfOk result (λ flow. step program.now (state self.old) ≡ came flow (state self.new)) }
+        ensures stuck { IfOk result (λ flow. (cause : CauseOf) → flow ≡ Stuck cause → Keeps self.old self.new) }
+        ensures err { OnErr result (state self.new ≡ state self.old) }
+    {
+        match cache.get(&self.place) {
+            Some(found) => self.execute(program, values, found),
+            None => self.step_anew(program, values, cache),
         }
     }
 }

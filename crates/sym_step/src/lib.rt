@@ -1,6 +1,7 @@
 //! One step of the symbolic machine. Where memory is wanted and there is none, nothing has changed.
 #![tactic(auto)]
 
+mod cache;
 mod call;
 mod changes;
 mod choices;
@@ -17,6 +18,7 @@ mod room;
 mod runner;
 mod stores;
 
+pub use cache::{Cache, Found};
 pub use flow::Flow;
 pub use output::Output;
 pub use registers::Registers;

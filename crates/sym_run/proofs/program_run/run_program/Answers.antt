@@ -23,3 +23,6 @@ returns c =
     let report = seen_so g (run (step g) c.args.steps s) c.in_ok-stop.stop.done c.in_ok-stop.stop.end c.go_on.new.runner ran in
     let bytes : c.in_ok-from_slice.field-0 ≡ c.go_on.new.runner.output.bytes.items = c.in_ok-from_slice.ensures ∙ c.as_slice.ensures.value in
     ap (λ (o : List ℕ). reported c.in_ok-stop.stop.done c.in_ok-stop.stop.end o) bytes ∙ sym report ∙ ap (λ (p : Program). sym_run p c.args.stack c.args.input.now c.args.steps) c.in_ok-program.ensures
+
+pub go_on-requires : goal.go_on-requires
+go_on-requires c = c.in_ok-cache.ensures c.in_ok-program.program

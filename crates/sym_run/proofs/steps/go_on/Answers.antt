@@ -9,6 +9,7 @@ pub returns-in_default : goal.returns-in_default
 returns-in_default c =
     let g = c.args.program.now in
     record {
+      cache = c.requires;
       done = omega arith;
       reached = λ r before stands.
           subst (λ (k : ℕ). StandsAt g (onward (step g) c.args.steps r) k c.args.end c.args.runner.now) (sym (add-zero before))

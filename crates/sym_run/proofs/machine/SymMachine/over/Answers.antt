@@ -11,5 +11,6 @@ invariant_of-result c =
     record {
       few = omega arith;
       most = omega arith;
+      cache = c.in_ok-cache.ensures g;
       reached = begun g (start g c.args.stack c.args.input.now) c.in_ok-runner.runner c.in_ok-runner.ensures;
     }
