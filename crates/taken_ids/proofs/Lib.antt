@@ -1,0 +1,11 @@
+pub mod Cuts
+pub mod Offsets
+pub mod Counts
+pub mod Repeats
+pub mod Free
+pub mod IdLists
+pub mod Sets
+pub mod Lists
+pub mod Steps
+pub mod NodeLists
+pub mod Worked
