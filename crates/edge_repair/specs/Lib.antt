@@ -1,0 +1,5 @@
+pub mod Jumps
+pub mod Ends
+pub mod Edges
+pub mod Sets
+pub mod Repaired

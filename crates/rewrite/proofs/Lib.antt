@@ -1,0 +1,11 @@
+pub mod Below
+pub mod Counted
+pub mod Found
+pub mod Lengths
+pub mod Members
+pub mod Olds
+pub mod Order
+pub mod Rooms
+pub mod Sections
+pub mod Unpatched
+pub mod Worked

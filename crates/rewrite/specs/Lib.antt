@@ -1,0 +1,10 @@
+pub mod Blocks
+pub mod Contents
+pub mod Exprs
+pub mod Functions
+pub mod Identifiers
+pub mod Offsets
+pub mod Places
+pub mod Rewritten
+pub mod Rooms
+pub mod Symbols
