@@ -88,3 +88,6 @@ number_word word = either_decided (numeral 10 word) hexadecimal where
             (numeral 16 p.behind)
         | inr refuted ↦ inr (λ x. refuted (record { behind = x.0; spelled = x.1 }))
       ]
+
+pub number_decided : (word : List ℕ) → Decided ((n : ℕ) × IsNumber word n)
+number_decided word = as_well (λ x. (x.0, x.1)) (λ x. (x.0, x.1, tt)) (number_with (λ n. Unit {0}) (λ n. inl tt) word)

@@ -15,3 +15,4 @@ pub mod Offsets
 pub mod Runs
 pub mod Sayings
 pub mod Searches
+pub mod Unique

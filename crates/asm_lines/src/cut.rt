@@ -76,7 +76,7 @@ fn cut_words(alloc: Global, texts: &mut Seq<Bytes>, words: &[Bytes]) -> Result<(
 }
 
 /// The texts of an instruction's words: the first word, and the others cut behind their commas.
-pub(crate) fn texts_of(alloc: Global, words: &[Bytes]) -> Result<Seq<Bytes>, AllocError>
+pub fn texts_of(alloc: Global, words: &[Bytes]) -> Result<Seq<Bytes>, AllocError>
     ensures { IfOk result (λ texts. texts ≡ texts_of words.now) }
 {
     let mut texts = Seq::new(alloc);

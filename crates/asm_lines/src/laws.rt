@@ -3,10 +3,13 @@
 ghost use Rattle.std.specs.Prelude.{◌≡◌, ◌⊎◌, ℕ, List};
 ghost use Rattle.asm_read.specs.declared.fault.TextReason.{TextReason};
 ghost use Rattle.asm_read.specs.Words.{HasWords};
+ghost use Rattle.a64_forms.specs.Number.{IsNumber, IsNumberWord};
 ghost use Rattle.asm_lines.specs.declared.line.AsmLine.{AsmLine};
+ghost use Rattle.asm_lines.specs.declared.line.AsmName.{AsmName};
+ghost use Rattle.asm_lines.specs.Labels.{IsLabel};
 ghost use Rattle.asm_lines.specs.Lines.{IsFault, IsLine};
 
-use a64_forms::laws::form_begins;
+use a64_forms::laws::{form_begins, one_form, one_number};
 use asm_read::laws::one_split;
 
 /// A line that says something has no fault.
@@ -33,4 +36,34 @@ pub fn words_or_none()
 /// Every line says something or has a fault.
 pub fn says_or_fault()
     ensures { (line : List ℕ) → ((said : AsmLine) × IsLine line said) ⊎ ((reason : TextReason) × IsFault line reason) }
+{}
+
+/// A word is one label at most.
+pub fn one_label()
+    ensures { (word : List ℕ) (a b : AsmName) → IsLabel word a → IsLabel word b → a ≡ b }
+{}
+
+/// A line says one thing at most.
+pub fn one_saying()
+    ensures { (line : List ℕ) (a b : AsmLine) → IsLine line a → IsLine line b → a ≡ b }
+{
+    one_split();
+    form_begins();
+    one_form();
+    one_number();
+}
+
+/// A word is a label or none.
+pub fn label_or_none()
+    ensures { (word : List ℕ) → ((label : AsmName) × IsLabel word label) ⊎ (((label : AsmName) × IsLabel word label) → ⊥) }
+{}
+
+/// A word spells a number or none.
+pub fn number_or_none()
+    ensures { (word : List ℕ) → ((n : ℕ) × IsNumber word n) ⊎ (((n : ℕ) × IsNumber word n) → ⊥) }
+{}
+
+/// A word is a number word or isn't.
+pub fn number_word_or_none()
+    ensures { (word : List ℕ) → IsNumberWord word ⊎ (IsNumberWord word → ⊥) }
 {}

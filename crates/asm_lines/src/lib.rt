@@ -11,6 +11,7 @@ mod name;
 mod reading;
 mod run;
 
+pub use cut::texts_of;
 pub use expression::read_expression;
 pub use label::read_label;
 pub use line::{AsmExpr, AsmItem, AsmLine, AsmName};

@@ -1,0 +1,10 @@
+pub mod Keyed
+pub mod Places
+pub mod Naming
+pub mod Entries
+pub mod Faults
+pub mod Aims
+pub mod Building
+pub mod Answers
+pub mod Indexed
+pub mod Values

@@ -1,0 +1,4 @@
+pub mod Texts
+pub mod Sayings
+pub mod Tables
+pub mod Typed
