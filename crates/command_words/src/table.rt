@@ -121,13 +121,19 @@ pub const JOBS: [JobRow; 7] = [
         Job::Layout,
         "layout",
         &[WordName::In, WordName::Out],
-        &[WordName::Module, WordName::Plain, WordName::Isa],
+        &[
+            WordName::Patch,
+            WordName::Module,
+            WordName::Plain,
+            WordName::Isa,
+        ],
     ),
     (
         Job::Link,
         "link",
         &[WordName::In, WordName::Out],
         &[
+            WordName::Patch,
             WordName::Module,
             WordName::Plain,
             WordName::Isa,
@@ -145,6 +151,7 @@ pub const JOBS: [JobRow; 7] = [
         "sim",
         &[WordName::In, WordName::Out],
         &[
+            WordName::Patch,
             WordName::Module,
             WordName::Plain,
             WordName::Isa,

@@ -33,8 +33,8 @@ fn changes_of(alloc: Global, table: &str, group: &Group, row: &Row) -> Result<St
     Ok(out)
 }
 
-/// Appends the lines of a layout, which stand between semicolons. Empty ones are no lines.
-fn push_layout(alloc: Global, text: &mut String, lines: &str) -> Result<(), AllocError> {
+/// Appends lines, which stand between semicolons. Empty ones are no lines.
+fn push_lines(alloc: Global, text: &mut String, lines: &str) -> Result<(), AllocError> {
     for line in lines.split(';') {
         let line = written_out(alloc, line)?;
         if !line.is_empty() {
@@ -45,19 +45,25 @@ fn push_layout(alloc: Global, text: &mut String, lines: &str) -> Result<(), Allo
     Ok(())
 }
 
-/// Puts the layout of a row, behind which stands that of its group, on a desk as `l`.
-fn put_layout(
+/// The lines of a row where its group is of this kind, and else none.
+fn lines_of<'a>(kind: Kind, group: &Group, row: &Row<'a>) -> &'a str {
+    if group.kind == kind { row.given } else { "" }
+}
+
+/// Puts the layout of a row, behind which stands that of its group, on a desk as `l`, and its patches as `p`.
+fn put_texts(
     alloc: Global,
     desk: &mut MemDesk,
     group: &Group,
     row: &Row,
 ) -> Result<(), AllocError> {
-    let mut text = String::new(alloc);
-    if group.kind == Kind::Layouts {
-        push_layout(alloc, &mut text, row.given)?;
-    }
-    push_layout(alloc, &mut text, group.layout.as_str())?;
-    desk.put("l", text.as_bytes())
+    let mut layout = String::new(alloc);
+    push_lines(alloc, &mut layout, lines_of(Kind::Layouts, group, row))?;
+    push_lines(alloc, &mut layout, group.layout.as_str())?;
+    desk.put("l", layout.as_bytes())?;
+    let mut patches = String::new(alloc);
+    push_lines(alloc, &mut patches, lines_of(Kind::Patches, group, row))?;
+    desk.put("p", patches.as_bytes())
 }
 
 /// Puts a file of a name and hexadecimal digits on a desk.
@@ -71,8 +77,8 @@ fn put_file(alloc: Global, desk: &mut MemDesk, file: &str) -> Result<(), End<Spe
     }
 }
 
-/// The desk of a row: the example with changes as `a`, the input `ab` as `n`, a layout as `l`, the file of its group, and
-/// what the jobs before it wrote.
+/// The desk of a row: the example with changes as `a`, the input `ab` as `n`, a layout as `l`, patches as `p`, the file of
+/// its group, and what the jobs before it wrote.
 pub fn desk_of(
     alloc: Global,
     table: &str,
@@ -84,7 +90,7 @@ pub fn desk_of(
     let bytes = hello(alloc, changes.as_str())?;
     desk.put("a", bytes.as_slice())?;
     desk.put("n", b"ab")?;
-    put_layout(alloc, &mut desk, group, row)?;
+    put_texts(alloc, &mut desk, group, row)?;
     put_file(alloc, &mut desk, group.file.as_str())?;
     for line in group.before.split(';') {
         said(alloc, &mut desk, line)?;

@@ -7,6 +7,8 @@ pub enum Kind {
     Options,
     /// A layout.
     Layouts,
+    /// Patches.
+    Patches,
     /// A program, as instructions.
     Programs,
     /// Nothing is known of the rows.
@@ -37,6 +39,7 @@ fn kind_of(word: &str) -> Kind {
     match word {
         "options" => Kind::Options,
         "layouts" => Kind::Layouts,
+        "patches" => Kind::Patches,
         "programs" => Kind::Programs,
         _ => Kind::Unknown,
     }

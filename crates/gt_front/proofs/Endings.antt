@@ -7,7 +7,7 @@ use Rattle.gr_base.specs.declared.whole.ReadEnd.{ReadEnd}
 use Rattle.gr_base.specs.declared.whole.ReadEnd.TheVariants as reads
 use Rattle.gt_front.specs.declared.answer.Answer.{Answer}
 use Rattle.gt_front.specs.declared.answer.Answer.TheVariants.{Done, Usage, ReadFault, WriteFault, Memory, TooLarge, Format, Check, Image}
-use Rattle.gt_front.specs.declared.answer.Answer.TheVariants.{Layout as LayoutAnswer, Link as LinkAnswer}
+use Rattle.gt_front.specs.declared.answer.Answer.TheVariants.{Patch as PatchAnswer, Rewrite as RewriteAnswer, Layout as LayoutAnswer, Link as LinkAnswer}
 use Rattle.command_words.specs.declared.role.Role.{Role}
 use Rattle.gt_front.specs.declared.inputs.Unread.{Unread}
 use Rattle.gt_front.specs.declared.verdict.Finished.{Finished}
@@ -28,6 +28,8 @@ use Rattle.gt_front.proofs.Telling.{told_always, told_map, both_map, both_weaken
 refusal_in : Answer → Option Refusal
 refusal_in (Format fault) = Some (refusals.Format fault)
 refusal_in (Check fault) = Some (refusals.Check fault)
+refusal_in (PatchAnswer fault) = Some (refusals.Patch fault)
+refusal_in (RewriteAnswer fault) = Some (refusals.Rewrite fault)
 refusal_in (LayoutAnswer fault) = Some (refusals.Layout fault)
 refusal_in (LinkAnswer fault) = Some (refusals.Link fault)
 refusal_in (Image fault) = Some (refusals.Image fault)
@@ -37,6 +39,8 @@ refusal_again : (refusal : Refusal) → refusal_in (answer_of refusal) ≡ Some 
 unfolding refusal_in
 refusal_again (refusals.Format fault) = refl
 refusal_again (refusals.Check fault) = refl
+refusal_again (refusals.Patch fault) = refl
+refusal_again (refusals.Rewrite fault) = refl
 refusal_again (refusals.Layout fault) = refl
 refusal_again (refusals.Link fault) = refl
 refusal_again (refusals.Image fault) = refl

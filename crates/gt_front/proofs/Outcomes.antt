@@ -1,5 +1,5 @@
 -- Each job gives one verdict.
-use Rattle.std.proofs.Common.{◌≡◌, ◌⊎◌, inl, inr, List, [], ◌∷◌, ℕ, Bool, true, false, Option, None, Some, Ok, Err, unwrap_or, refl, sym, ap, subst, arith}
+use Rattle.std.proofs.Common.{◌≡◌, ◌⊎◌, inl, inr, Result, List, [], ◌∷◌, ℕ, Bool, true, false, Option, None, Some, Ok, Err, unwrap_or, refl, sym, ◌∙◌, ap, subst, arith}
 use Rattle.std.specs.Option.{option_and_then, option_map, option_map_or}
 use Rattle.gr_base.specs.Desk.{Files}
 use Rattle.gt_model.specs.declared.ir.Ir.{Ir}
@@ -26,14 +26,20 @@ use Rattle.layout_plan.specs.Text.{layout_text, text_fault}
 use Rattle.layout_plan.specs.declared.fault.LayoutFault.TheVariants.{Line}
 use Rattle.gt_model.specs.declared.modules.Module.{Module}
 use Rattle.sym_expr.specs.declared.layout.Layout.{Layout as ALayout}
+use Rattle.patch_lines.specs.declared.fault.PatchFault.{PatchFault}
+use Rattle.patch_table.specs.PatchText.{patch_text}
+use Rattle.sym_expr.specs.declared.patches.PatchTable.{PatchTable}
+use Rattle.sym_expr.specs.declared.program.Program.{Program}
 use Rattle.sym_expr.specs.declared.shape.Shape.{Shape}
 use Rattle.sym_expr.specs.Placing.{shape_of}
 use Rattle.command_words.specs.declared.role.Role.TheVariants as roles
 use Rattle.gt_front.specs.declared.verdict.Refusal.TheVariants as refusals
 use Rattle.gt_front.specs.Demo.{demo_made}
 use Rattle.module_program.specs.Graphs.{program_in}
-use Rattle.gt_front.specs.Modules.{check_made, layout_made, link_made, program_module, laid, laid_text}
-use Rattle.gt_front.specs.Sim.{sim_made}
+use Rattle.gt_front.specs.Modules.{check_made, program_module}
+use Rattle.gt_front.specs.Programs.{free_program, patches_in, ModuleProgram, PatchedProgram, Programs}
+use Rattle.gt_front.specs.Linking.{laid_out, link_made, laid, laid_text, LaysIr, LinksIr, LinksProgram}
+use Rattle.gt_front.specs.Sim.{sim_made, SimsIr, SimsProgram}
 use Rattle.gt_front.proofs.Binding.{exactly_one, exactly_some}
 use Rattle.gt_front.proofs.Chains.{chain_one, just_one, meant_one, imaged_one, chain_some, just_some, meant_some, imaged_some}
 
@@ -56,6 +62,23 @@ laid_text_some some text =
       | inr y ↦ (Err (refusals.Layout (Line y.0)), (y.0, refl, y.1))
     ]
 
+-- a text gives one table of patches, or has one fault
+pub patches_in_one : ((text : List ℕ) (m : Module) (a b : Result PatchTable PatchFault) → patch_text text m a → patch_text text m b → a ≡ b)
+    → (text : List ℕ) (m : Module) → GivesOne (patches_in text m)
+patches_in_one one text m (Ok a) (Ok b) x y = let same = one text m (Ok a) (Ok b) x y in cc
+patches_in_one one text m (Ok a) (Err s) x y = let same = one text m (Ok a) (Err y.0) x y.2 in absurd cc
+patches_in_one one text m (Err r) (Ok b) x y = let same = one text m (Err x.0) (Ok b) x.2 y in absurd cc
+patches_in_one one text m (Err r) (Err s) x y =
+    let results = one text m (Err x.0) (Err y.0) x.2 y.2 in
+    let same : x.0 ≡ y.0 = cc in
+    ap Err (x.1 ∙ ap refusals.Patch same ∙ sym y.1)
+
+pub patches_in_some : ((text : List ℕ) (m : Module) → (r : Result PatchTable PatchFault) × patch_text text m r) → (text : List ℕ) (m : Module) → GivesSome (patches_in text m)
+patches_in_some some text m = from (some text m).0 (some text m).1 where
+  from : (r : Result PatchTable PatchFault) → patch_text text m r → GivesSome (patches_in text m)
+  from (Ok p) is = (Ok p, is)
+  from (Err fault) is = (Err (refusals.Patch fault), (fault, refl, is))
+
 laid_one : ((text : List ℕ) → GivesOne (laid_text text)) → (word : Option (List ℕ)) (shape : Shape) → GivesOne (laid word shape)
 laid_one ones None shape = exactly_one _
 laid_one ones (Some text) shape = ones text
@@ -63,7 +86,32 @@ laid_one ones (Some text) shape = ones text
 module _ (meaning : (bytes : List ℕ) (a b : Ir) → file bytes a → file bytes b → a ≡ b)
     (image : (a b : AnImage) (bytes : List ℕ) → image_bytes a bytes → image_bytes b bytes → a ≡ b)
     (fault : (bytes : List ℕ) (a b : ℕ) → image_fault bytes a → image_fault bytes b → a ≡ b)
-    (texts : (text : List ℕ) → GivesOne (laid_text text)) where
+    (texts : (text : List ℕ) → GivesOne (laid_text text))
+    (patches : (text : List ℕ) (m : Module) → GivesOne (patches_in text m)) where
+  -- a module and its patches have one program, or one fault
+  program_one : (ir : Ir) (text : Option (List ℕ)) (m : Module) → GivesOne (ModuleProgram ir text m)
+  program_one ir None m = exactly_one (Ok (program_in m))
+  program_one ir (Some text) m = chain_one (patches_in text m) (λ p. exactly (free_program ir m p)) (patches text m) (λ p. exactly_one (free_program ir m p))
+
+  programs_one : (asked : Picked) (text : Option (List ℕ)) (ir : Ir) → GivesOne (Programs asked text ir)
+  programs_one asked text ir = chain_one (exactly (program_module asked ir)) (λ m. ModuleProgram ir text m) (exactly_one (program_module asked ir)) (λ m. program_one ir text m)
+
+  lays_one : (asked : Picked) (contents : Contents) (ir : Ir) → GivesOne (LaysIr asked contents ir)
+  lays_one asked contents ir =
+      chain_one (Programs asked (contents roles.Patch) ir) (λ g. just (laid_out g)) (programs_one asked (contents roles.Patch) ir) (λ g. just_one (laid_out g))
+
+  links_one : (asked : Picked) (contents : Contents) (ir : Ir) → GivesOne (LinksIr asked contents ir)
+  links_one asked contents ir =
+      chain_one (Programs asked (contents roles.Patch) ir) (λ g. LinksProgram (contents roles.Layout) g) (programs_one asked (contents roles.Patch) ir) (λ g.
+      chain_one (laid (contents roles.Layout) (shape_of g)) (λ layout. exactly (link_made g layout)) (laid_one texts (contents roles.Layout) (shape_of g)) (λ layout. exactly_one (link_made g layout)))
+
+  sims_one : (asked : Picked) (contents : Contents) (ir : Ir) → GivesOne (SimsIr asked contents ir)
+  sims_one asked contents ir =
+      let input = bytes_in contents Input in
+      let steps = asked.settings.steps in
+      chain_one (Programs asked (contents roles.Patch) ir) (λ g. SimsProgram (contents roles.Layout) input steps g) (programs_one asked (contents roles.Patch) ir) (λ g.
+      chain_one (laid (contents roles.Layout) (shape_of g)) (λ layout. exactly (sim_made g layout input steps)) (laid_one texts (contents roles.Layout) (shape_of g)) (λ layout. exactly_one (sim_made g layout input steps)))
+
   makes_one : (job : Job) (asked : Picked) (passes : List Pass) (contents : Contents) → GivesOne (makes_as job asked passes contents)
   makes_one Recode asked passes contents =
       chain_one (meant (bytes_in contents In)) (λ ir. just (written (canonical ir)))
@@ -72,26 +120,15 @@ module _ (meaning : (bytes : List ℕ) (a b : Ir) → file bytes a → file byte
       chain_one (meant (bytes_in contents In)) (λ ir. exactly (check_made asked ir))
       (meant_one meaning (bytes_in contents In)) (λ ir. exactly_one (check_made asked ir))
   makes_one Layout asked passes contents =
-      chain_one (meant (bytes_in contents In)) (λ ir. exactly (layout_made asked ir))
-      (meant_one meaning (bytes_in contents In)) (λ ir. exactly_one (layout_made asked ir))
+      chain_one (meant (bytes_in contents In)) (λ ir. LaysIr asked contents ir) (meant_one meaning (bytes_in contents In)) (λ ir. lays_one asked contents ir)
   makes_one Link asked passes contents =
-      let linked : Module → ALayout → _ = λ m layout. exactly (link_made (program_in m) layout) in
-      let placed : Module → Stage ALayout = λ m. laid (contents roles.Layout) (shape_of (program_in m)) in
-      chain_one (meant (bytes_in contents In)) (λ ir. chain (exactly (program_module asked ir)) (λ m. chain (placed m) (linked m)))
-      (meant_one meaning (bytes_in contents In)) (λ ir.
-      chain_one (exactly (program_module asked ir)) (λ m. chain (placed m) (linked m)) (exactly_one (program_module asked ir)) (λ m.
-      chain_one (placed m) (linked m) (laid_one texts (contents roles.Layout) (shape_of (program_in m))) (λ layout. exactly_one (link_made (program_in m) layout))))
+      chain_one (meant (bytes_in contents In)) (λ ir. LinksIr asked contents ir) (meant_one meaning (bytes_in contents In)) (λ ir. links_one asked contents ir)
   makes_one Run asked passes contents =
       let report : AnImage → _ = λ x. reported (num_run x (bytes_in contents Input) asked.settings.steps) in
       chain_one (imaged (bytes_in contents In)) (λ x. just (report x))
       (imaged_one image fault (bytes_in contents In)) (λ x. just_one (report x))
   makes_one Sim asked passes contents =
-      let linked : Module → ALayout → _ = λ m layout. exactly (sim_made (program_in m) layout (bytes_in contents Input) asked.settings.steps) in
-      let placed : Module → Stage ALayout = λ m. laid (contents roles.Layout) (shape_of (program_in m)) in
-      chain_one (meant (bytes_in contents In)) (λ ir. chain (exactly (program_module asked ir)) (λ m. chain (placed m) (linked m)))
-      (meant_one meaning (bytes_in contents In)) (λ ir.
-      chain_one (exactly (program_module asked ir)) (λ m. chain (placed m) (linked m)) (exactly_one (program_module asked ir)) (λ m.
-      chain_one (placed m) (linked m) (laid_one texts (contents roles.Layout) (shape_of (program_in m))) (λ layout. exactly_one (sim_made (program_in m) layout (bytes_in contents Input) asked.settings.steps))))
+      chain_one (meant (bytes_in contents In)) (λ ir. SimsIr asked contents ir) (meant_one meaning (bytes_in contents In)) (λ ir. sims_one asked contents ir)
   makes_one Demo asked passes contents = exactly_one (demo_made asked.settings.seed asked.settings.blocks)
 
   pub outcome_one : (asked : Option Picked) (passes : List Pass) (files : Files) (a b : Verdict) → Outcome asked passes files a → Outcome asked passes files b → a ≡ b
@@ -102,10 +139,35 @@ module _ (found : (bytes : List ℕ) → format_fault bytes ≡ None → (ir : I
     (excluded : (bytes : List ℕ) (fault : FormatFault) (ir : Ir) → format_fault bytes ≡ Some fault → file bytes ir → ⊥)
     (some : (bytes : List ℕ) → AreBytes bytes → ((image : AnImage) × image_bytes image bytes) ⊎ ((place : ℕ) × image_fault bytes place))
     (apart : (bytes : List ℕ) (image : AnImage) (place : ℕ) → image_bytes image bytes → image_fault bytes place → ⊥)
-    (texts : (text : List ℕ) → GivesSome (laid_text text)) where
+    (texts : (text : List ℕ) → GivesSome (laid_text text))
+    (patches : (text : List ℕ) (m : Module) → GivesSome (patches_in text m)) where
   laid_some : (word : Option (List ℕ)) (shape : Shape) → GivesSome (laid word shape)
   laid_some None shape = exactly_some _
   laid_some (Some text) shape = texts text
+
+  -- a module and its patches have a program or a fault
+  program_some : (ir : Ir) (text : Option (List ℕ)) (m : Module) → GivesSome (ModuleProgram ir text m)
+  program_some ir None m = exactly_some (Ok (program_in m))
+  program_some ir (Some text) m = chain_some (patches_in text m) (λ p. exactly (free_program ir m p)) (patches text m) (λ p h. exactly_some (free_program ir m p))
+
+  programs_some : (asked : Picked) (text : Option (List ℕ)) (ir : Ir) → GivesSome (Programs asked text ir)
+  programs_some asked text ir = chain_some (exactly (program_module asked ir)) (λ m. ModuleProgram ir text m) (exactly_some (program_module asked ir)) (λ m h. program_some ir text m)
+
+  lays_some : (asked : Picked) (contents : Contents) (ir : Ir) → GivesSome (LaysIr asked contents ir)
+  lays_some asked contents ir =
+      chain_some (Programs asked (contents roles.Patch) ir) (λ g. just (laid_out g)) (programs_some asked (contents roles.Patch) ir) (λ g h. just_some (laid_out g))
+
+  links_some : (asked : Picked) (contents : Contents) (ir : Ir) → GivesSome (LinksIr asked contents ir)
+  links_some asked contents ir =
+      chain_some (Programs asked (contents roles.Patch) ir) (λ g. LinksProgram (contents roles.Layout) g) (programs_some asked (contents roles.Patch) ir) (λ g h.
+      chain_some (laid (contents roles.Layout) (shape_of g)) (λ layout. exactly (link_made g layout)) (laid_some (contents roles.Layout) (shape_of g)) (λ layout l. exactly_some (link_made g layout)))
+
+  sims_some : (asked : Picked) (contents : Contents) (ir : Ir) → GivesSome (SimsIr asked contents ir)
+  sims_some asked contents ir =
+      let input = bytes_in contents Input in
+      let steps = asked.settings.steps in
+      chain_some (Programs asked (contents roles.Patch) ir) (λ g. SimsProgram (contents roles.Layout) input steps g) (programs_some asked (contents roles.Patch) ir) (λ g h.
+      chain_some (laid (contents roles.Layout) (shape_of g)) (λ layout. exactly (sim_made g layout input steps)) (laid_some (contents roles.Layout) (shape_of g)) (λ layout l. exactly_some (sim_made g layout input steps)))
 
   makes_some : (job : Job) (asked : Picked) (passes : List Pass) (contents : Contents) → ((role : Role) → AreBytes (bytes_in contents role))
       → GivesSome (makes_as job asked passes contents)
@@ -116,26 +178,15 @@ module _ (found : (bytes : List ℕ) → format_fault bytes ≡ None → (ir : I
       chain_some (meant (bytes_in contents In)) (λ ir. exactly (check_made asked ir))
       (meant_some found excluded (bytes_in contents In)) (λ ir h. exactly_some (check_made asked ir))
   makes_some Layout asked passes contents are =
-      chain_some (meant (bytes_in contents In)) (λ ir. exactly (layout_made asked ir))
-      (meant_some found excluded (bytes_in contents In)) (λ ir h. exactly_some (layout_made asked ir))
+      chain_some (meant (bytes_in contents In)) (λ ir. LaysIr asked contents ir) (meant_some found excluded (bytes_in contents In)) (λ ir h. lays_some asked contents ir)
   makes_some Link asked passes contents are =
-      let linked : Module → ALayout → _ = λ m layout. exactly (link_made (program_in m) layout) in
-      let placed : Module → Stage ALayout = λ m. laid (contents roles.Layout) (shape_of (program_in m)) in
-      chain_some (meant (bytes_in contents In)) (λ ir. chain (exactly (program_module asked ir)) (λ m. chain (placed m) (linked m)))
-      (meant_some found excluded (bytes_in contents In)) (λ ir h.
-      chain_some (exactly (program_module asked ir)) (λ m. chain (placed m) (linked m)) (exactly_some (program_module asked ir)) (λ m k.
-      chain_some (placed m) (linked m) (laid_some (contents roles.Layout) (shape_of (program_in m))) (λ layout l. exactly_some (link_made (program_in m) layout))))
+      chain_some (meant (bytes_in contents In)) (λ ir. LinksIr asked contents ir) (meant_some found excluded (bytes_in contents In)) (λ ir h. links_some asked contents ir)
   makes_some Run asked passes contents are =
       let report : AnImage → _ = λ x. reported (num_run x (bytes_in contents Input) asked.settings.steps) in
       chain_some (imaged (bytes_in contents In)) (λ x. just (report x))
       (imaged_some some apart (bytes_in contents In) (are In)) (λ x h. just_some (report x))
   makes_some Sim asked passes contents are =
-      let linked : Module → ALayout → _ = λ m layout. exactly (sim_made (program_in m) layout (bytes_in contents Input) asked.settings.steps) in
-      let placed : Module → Stage ALayout = λ m. laid (contents roles.Layout) (shape_of (program_in m)) in
-      chain_some (meant (bytes_in contents In)) (λ ir. chain (exactly (program_module asked ir)) (λ m. chain (placed m) (linked m)))
-      (meant_some found excluded (bytes_in contents In)) (λ ir h.
-      chain_some (exactly (program_module asked ir)) (λ m. chain (placed m) (linked m)) (exactly_some (program_module asked ir)) (λ m k.
-      chain_some (placed m) (linked m) (laid_some (contents roles.Layout) (shape_of (program_in m))) (λ layout l. exactly_some (sim_made (program_in m) layout (bytes_in contents Input) asked.settings.steps))))
+      chain_some (meant (bytes_in contents In)) (λ ir. SimsIr asked contents ir) (meant_some found excluded (bytes_in contents In)) (λ ir h. sims_some asked contents ir)
   makes_some Demo asked passes contents are = exactly_some (demo_made asked.settings.seed asked.settings.blocks)
 
   -- the contents of files that hold bytes are bytes

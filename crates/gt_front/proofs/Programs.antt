@@ -8,6 +8,7 @@ use Rattle.std.proofs.lemmas.List.Filters.{sum_by-filter_both}
 use Rattle.aux_tables.specs.ModuleTables.{tables_of}
 use Rattle.aux_types.specs.Gives.{◌>>=◌, Fails, Gives}
 use Rattle.gr_base.specs.declared.end.End.{End}
+use Rattle.gr_base.specs.declared.end.End.TheVariants as ends
 use Rattle.gt_model.specs.declared.ir.Ir.{Ir}
 use Rattle.gt_model.specs.declared.modules.Module.{Module}
 use Rattle.gt_model.specs.declared.modules.Section.{Section}
@@ -26,6 +27,7 @@ use Rattle.gt_front.specs.declared.verdict.Refusal.{Refusal}
 use Rattle.gt_front.specs.declared.verdict.Refusal.TheVariants.{Check}
 use Rattle.gt_front.specs.Modules.{checked_module, linked_up, module_in, profile_of, program_module, unless}
 use Rattle.command_words.specs.Picked.{Picked}
+use Rattle.gt_front.specs.Stages.{Answers, exactly}
 use Rattle.gt_front.proofs.Binding.{bind_ok}
 
 -- two steps give a value only where both do
@@ -50,6 +52,11 @@ pub gives_stops : {X Y : Type 0} (view : X → Y) (r : Result X (End Refusal)) (
     → Fails end known → IsErrAnd r (λ e. e ≡ end) → Gives view r known
 gives_stops view (Ok x) known end h w = absurd w
 gives_stops view (Err e) known end h w = subst (λ (x : End Refusal). Fails x known) (sym w) h
+
+-- a call that fails as what is known does answers it
+pub fails_exactly : {T : Type 0} (known : Result T Refusal) (end : End Refusal) → Fails end known → Answers (exactly known) (Err end)
+fails_exactly known (ends.Fault refusal) h = sym h
+fails_exactly known ends.Memory h = tt
 
 -- where the checks of the module stop, all stops
 pub load_stops : (asked : Picked) (ir x : Ir) (m : Module) (profile : Profile) (end : End Refusal) → linked_up ir ≡ Ok x → module_in asked.settings.ordinal x ≡ Ok m
@@ -87,6 +94,10 @@ loaded_few m =
     let loaded = length-flat_map (λ (s : Section). s.intervals) (loaded_sections m) in
     let all = length-flat_map (λ (s : Section). s.intervals) m.sections in
     omega arith
+
+-- the loaded intervals are few where all are
+pub few_loaded : (m : Module) → length (intervals_of m.sections) < 2 ^ 39 → length (loaded_intervals m) < 2 ^ 39
+few_loaded m few = let loaded = loaded_few m in omega arith
 
 -- a module that has a program is formed, where its intervals are few
 pub linkable_formed : (ir : Ir) (m : Module) → linkable ir m (tables_of m) → length (intervals_of m.sections) < 2 ^ 39 → formed ir m (tables_of m)

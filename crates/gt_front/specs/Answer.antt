@@ -7,7 +7,7 @@ use Rattle.gr_base.specs.declared.whole.ReadEnd.TheVariants as reads
 use Rattle.gt_front.specs.declared.answer.Answer.{Answer}
 use Rattle.command_words.specs.declared.role.Role.{Role}
 use Rattle.gt_front.specs.declared.answer.Answer.TheVariants.{Done, Usage, ReadFault, WriteFault, Memory, TooLarge, Format, Check, Image}
-use Rattle.gt_front.specs.declared.answer.Answer.TheVariants.{Layout as LayoutAnswer, Link as LinkAnswer}
+use Rattle.gt_front.specs.declared.answer.Answer.TheVariants.{Patch as PatchAnswer, Rewrite as RewriteAnswer, Layout as LayoutAnswer, Link as LinkAnswer}
 use Rattle.gt_front.specs.declared.verdict.Refusal.{Refusal}
 use Rattle.gt_front.specs.declared.verdict.Refusal.TheVariants as refusals
 
@@ -21,6 +21,8 @@ status_of Memory = 5
 status_of (TooLarge role) = 6
 status_of (Format fault) = 7
 status_of (Check fault) = 8
+status_of (PatchAnswer fault) = 9
+status_of (RewriteAnswer fault) = 10
 status_of (LayoutAnswer fault) = 11
 status_of (LinkAnswer fault) = 12
 status_of (Image fault) = 14
@@ -29,6 +31,8 @@ status_of (Image fault) = 14
 abbrev pub answer_of : Refusal → Answer
 answer_of (refusals.Format fault) = Format fault
 answer_of (refusals.Check fault) = Check fault
+answer_of (refusals.Patch fault) = PatchAnswer fault
+answer_of (refusals.Rewrite fault) = RewriteAnswer fault
 answer_of (refusals.Layout fault) = LayoutAnswer fault
 answer_of (refusals.Link fault) = LinkAnswer fault
 answer_of (refusals.Image fault) = Image fault

@@ -5,6 +5,8 @@ pub mod Stages
 pub mod Recode
 pub mod Run
 pub mod Modules
+pub mod Programs
+pub mod Linking
 pub mod Simulated
 pub mod Sim
 pub mod Demo

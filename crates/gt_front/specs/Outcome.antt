@@ -11,7 +11,8 @@ use Rattle.command_words.specs.Picked.{Picked}
 use Rattle.gt_front.specs.Stages.{Stage}
 use Rattle.gt_front.specs.Recode.{Recodes, ReadsBack}
 use Rattle.gt_front.specs.Run.{Runs}
-use Rattle.gt_front.specs.Modules.{Checks, Lays, Links}
+use Rattle.gt_front.specs.Modules.{Checks}
+use Rattle.gt_front.specs.Linking.{Lays, Links}
 use Rattle.gt_front.specs.Simulated.{SimulatesFile}
 use Rattle.gt_front.specs.Sim.{Sims}
 use Rattle.gt_front.specs.Demo.{Demos}

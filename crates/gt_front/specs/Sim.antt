@@ -1,4 +1,4 @@
--- What `sim` makes of a module, a layout and an input.
+-- What `sim` makes of a module, its patches, a layout and an input.
 use Rattle.std.specs.Prelude.{ℕ, List, Option, Some, Result, Ok}
 use Rattle.aux_types.specs.Gives.{◌>>=◌}
 use Rattle.gt_model.specs.declared.ir.Ir.{Ir}
@@ -12,9 +12,9 @@ use Rattle.gt_front.specs.declared.verdict.Finished.{Finished}
 use Rattle.gt_front.specs.declared.verdict.Refusal.{Refusal}
 use Rattle.note_texts.specs.SimTexts.{sim_text}
 use Rattle.gt_front.specs.Inputs.{Contents, bytes_in}
-use Rattle.module_program.specs.Graphs.{program_in}
-use Rattle.gt_front.specs.Modules.{laid, link_made, program_module}
+use Rattle.gt_front.specs.Linking.{laid, link_made}
 use Rattle.command_words.specs.Picked.{Picked}
+use Rattle.gt_front.specs.Programs.{Programs}
 use Rattle.gt_front.specs.Stages.{Stage, chain, exactly, meant}
 
 -- the output of a symbolic run is written, and the text says where it stands
@@ -29,11 +29,11 @@ sim_made g layout input steps = link_made g layout >>= (λ linked. Ok (simulated
 abbrev pub SimsProgram : Option (List ℕ) → List ℕ → ℕ → Program → Stage Finished
 SimsProgram text input steps g = chain (laid text (shape_of g)) (λ layout. exactly (sim_made g layout input steps))
 
--- the same of the module that is asked for
-abbrev pub SimsIr : Picked → Option (List ℕ) → List ℕ → Ir → Stage Finished
-SimsIr asked text input ir = chain (exactly (program_module asked ir)) (λ m. SimsProgram text input asked.settings.steps (program_in m))
+-- the same of the program that is asked for
+abbrev pub SimsIr : Picked → Contents → Ir → Stage Finished
+SimsIr asked contents ir =
+    chain (Programs asked (contents roles.Patch) ir) (λ g. SimsProgram (contents roles.Layout) (bytes_in contents roles.Input) asked.settings.steps g)
 
--- `sim`: the symbolic run of the module's program
+-- `sim`: the symbolic run of the program of the module and its patches
 abbrev pub Sims : Picked → Contents → Stage Finished
-Sims asked contents =
-    chain (meant (bytes_in contents roles.In)) (λ ir. SimsIr asked (contents roles.Layout) (bytes_in contents roles.Input) ir)
+Sims asked contents = chain (meant (bytes_in contents roles.In)) (λ ir. SimsIr asked contents ir)

@@ -1,9 +1,7 @@
 -- What `link` promises beside its outcome: the image does what the symbolic machine of the module does.
 use Rattle.std.specs.Prelude.{◌≡◌, ℕ, List, Option, None, Ok}
 use Rattle.gt_model.specs.declared.ir.Ir.{Ir}
-use Rattle.gt_model.specs.declared.modules.Module.{Module}
 use Rattle.gt_read.specs.File.{file}
-use Rattle.module_program.specs.Graphs.{program_in}
 use Rattle.placed_images.specs.Simulates.{Simulates}
 use Rattle.sym_expr.specs.declared.layout.Layout.{Layout as ALayout}
 use Rattle.sym_expr.specs.declared.program.Program.{Program}
@@ -11,7 +9,8 @@ use Rattle.sym_expr.specs.Images.{link_fault}
 use Rattle.sym_expr.specs.Placing.{shape_of}
 use Rattle.command_words.specs.declared.role.Role.TheVariants as roles
 use Rattle.gt_front.specs.Inputs.{Contents, bytes_in}
-use Rattle.gt_front.specs.Modules.{laid, program_module}
+use Rattle.gt_front.specs.Linking.{laid}
+use Rattle.gt_front.specs.Programs.{Programs}
 use Rattle.command_words.specs.Picked.{Picked}
 use Rattle.gt_front.specs.Stages.{Stage}
 
@@ -26,14 +25,14 @@ pub record SimulatesProgram (text : Option (List ℕ)) (g : Program) : Type 0 wh
   pub laid : laid text (shape_of g) (Ok layout)
   pub simulated : IsSimulated g layout
 
--- so the program of the module that is asked for
-pub record SimulatesIr (asked : Picked) (text : Option (List ℕ)) (ir : Ir) : Type 0 where
-  pub m : Module
-  pub loads : program_module asked ir ≡ Ok m
-  pub program : SimulatesProgram text (program_in m)
+-- so the program of the module that is asked for and of its patches
+pub record SimulatesIr (asked : Picked) (contents : Contents) (ir : Ir) : Type 0 where
+  pub g : Program
+  pub loads : Programs asked (contents roles.Patch) ir (Ok g)
+  pub program : SimulatesProgram (contents roles.Layout) g
 
 -- so that of the IR that the file means
 pub record SimulatesFile (asked : Picked) (contents : Contents) : Type 0 where
   pub ir : Ir
   pub means : file (bytes_in contents roles.In) ir
-  pub of_ir : SimulatesIr asked (contents roles.Layout) ir
+  pub of_ir : SimulatesIr asked contents ir

@@ -9,7 +9,9 @@ use gr_base::{End, ReadEnd, Text};
 use gt_read::FormatFault;
 use layout_plan::LayoutFault;
 use node_arena::CheckFault;
+use patch_lines::PatchFault;
 use sym_expr::LinkFault;
+use taken_ids::RewriteFault;
 
 /// How a job ended.
 #[derive(Debug, Drop)]
@@ -27,6 +29,10 @@ pub enum Answer {
     Format(FormatFault),
     /// Something is wrong with the nodes of the file, or with the module that is asked for.
     Check(CheckFault),
+    /// The bytes aren't patches that the module can take.
+    Patch(PatchFault),
+    /// The patches can't be brought into the module.
+    Rewrite(RewriteFault),
     /// The bytes aren't a layout, or one that isn't accepted.
     Layout(LayoutFault),
     /// The module can't be linked under the layout.
@@ -49,6 +55,8 @@ impl Answer {
             Answer::TooLarge(_) => 6,
             Answer::Format(_) => 7,
             Answer::Check(_) => 8,
+            Answer::Patch(_) => 9,
+            Answer::Rewrite(_) => 10,
             Answer::Layout(_) => 11,
             Answer::Link(_) => 12,
             Answer::Image(_) => 14,
@@ -73,6 +81,8 @@ impl Answer {
         match refusal {
             Refusal::Format(fault) => Answer::Format(fault),
             Refusal::Check(fault) => Answer::Check(fault),
+            Refusal::Patch(fault) => Answer::Patch(fault),
+            Refusal::Rewrite(fault) => Answer::Rewrite(fault),
             Refusal::Layout(fault) => Answer::Layout(fault),
             Refusal::Link(fault) => Answer::Link(fault),
             Refusal::Image(fault) => Answer::Image(fault),

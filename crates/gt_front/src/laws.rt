@@ -14,6 +14,7 @@ use asm_read::laws::one_split;
 use bare_image::laws::{image_or_fault, one_spelling};
 use gt_read::laws::{a_file_has_no_fault, no_fault_is_a_file, one_meaning};
 use layout_plan::laws::{one_layout_or_fault, one_saying};
+use patch_table::laws::{a_result, one_result};
 
 /// Over some files what is asked for has one outcome at most: one verdict, text and bytes.
 pub fn one_outcome()
@@ -23,6 +24,7 @@ pub fn one_outcome()
     one_spelling();
     image_or_fault();
     one_layout_or_fault();
+    one_result();
 }
 
 /// Over files that hold each input of a job's words there is an outcome.
@@ -35,4 +37,5 @@ pub fn an_outcome()
     image_or_fault();
     one_split();
     one_saying();
+    a_result();
 }

@@ -1,15 +1,10 @@
 ghost use Rattle.std.specs.Prelude.{◌≡◌, IfOk};
-ghost use Rattle.aux_types.specs.Gives.{Gives};
 ghost use Rattle.gt_model.specs.Ordered.{ordered};
 ghost use Rattle.gt_model.specs.Typed.{typed};
-ghost use Rattle.layout_plan.specs.Text.{spelling};
-ghost use Rattle.sym_expr.specs.Layouts.{default_of};
-ghost use Rattle.sym_expr.specs.Placing.{shape_of};
 ghost use Rattle.sym_expr.specs.WellMade.{well_made};
-ghost use Rattle.gt_front.specs.Modules.{layout_made, Lays};
+ghost use Rattle.gt_front.specs.Linking.{laid_out, LaysIr, Lays};
 ghost use Rattle.command_words.specs.Picked.{picked_view, InBounds};
 ghost use Rattle.gt_front.specs.Reads.{contents_view};
-ghost use Rattle.gt_front.specs.Recode.{written};
 ghost use Rattle.gt_front.specs.Stages.{Answers};
 
 use crate::inputs::Contents;
@@ -27,7 +22,7 @@ use sym_expr::Program;
 /// The default layout of a program, as it is written.
 fn default_text(alloc: Global, program: &Program) -> Result<Finished, AllocError>
     requires { well_made program.now }
-    ensures { IfOk result (λ made. made ≡ written (spelling (default_of (shape_of program.now)))) }
+    ensures { IfOk result (λ made. made ≡ laid_out program.now) }
 {
     let shape = program_shape(alloc, program)?;
     let layout = default_layout(alloc, &shape)?;
@@ -35,18 +30,23 @@ fn default_text(alloc: Global, program: &Program) -> Result<Finished, AllocError
     written(alloc, text)
 }
 
-/// The default layout of the module that the words ask for.
-fn layout_ir(alloc: Global, asked: &Picked<'_>, ir: &Ir) -> Result<Finished, End<Refusal>>
+/// The default layout of the program that the words ask for.
+fn layout_ir(
+    alloc: Global,
+    asked: &Picked<'_>,
+    ir: &Ir,
+    contents: &Contents,
+) -> Result<Finished, End<Refusal>>
     requires bounds { InBounds asked.now.settings }
     requires order { ordered ir.now }
     requires values { typed ir.now }
-    ensures { Gives (λ made. made) result (layout_made (picked_view asked.now) ir.now) }
+    ensures { Answers (LaysIr (picked_view asked.now) (contents_view contents.now) ir.now) result }
 {
-    let program = load_program(alloc, asked, ir)?;
+    let program = load_program(alloc, asked, ir, contents.of(Role::Patch))?;
     Ok(default_text(alloc, &program)?)
 }
 
-/// Writes the default layout of a module's program.
+/// Writes the default layout of the program of a module and its patches.
 pub fn layout(
     alloc: Global,
     asked: &Picked<'_>,
@@ -56,5 +56,5 @@ pub fn layout(
     ensures { Answers (Lays (picked_view asked.now) (contents_view contents.now)) result }
 {
     let ir = read_ir(alloc, contents.bytes(Role::In))?;
-    layout_ir(alloc, asked, &ir)
+    layout_ir(alloc, asked, &ir, contents)
 }

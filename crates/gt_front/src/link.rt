@@ -8,7 +8,7 @@ ghost use Rattle.sym_expr.specs.Shapes.{IsShape};
 ghost use Rattle.sym_expr.specs.WellMade.{well_made};
 ghost use Rattle.placed_images.specs.Typed.{IsTyped, HasNearEntries};
 ghost use Rattle.gt_front.specs.Simulated.{IsSimulated, SimulatesProgram, SimulatesIr, SimulatesFile};
-ghost use Rattle.gt_front.specs.Modules.{accepted_layout, laid, link_made, linked_image, LinksProgram, LinksIr, Links};
+ghost use Rattle.gt_front.specs.Linking.{accepted_layout, laid, link_made, linked_image, LinksProgram, LinksIr, Links};
 ghost use Rattle.command_words.specs.Picked.{picked_view, InBounds};
 ghost use Rattle.gt_front.specs.Reads.{contents_view};
 ghost use Rattle.gt_front.specs.Stages.{Answers};
@@ -114,24 +114,24 @@ fn link_under(
     linked(alloc, program, &shape, &layout)
 }
 
-/// The image of the module that the words ask for.
+/// The image of the program that the words ask for.
 fn link_ir(
     alloc: Global,
     asked: &Picked<'_>,
     ir: &Ir,
-    text: &Option<Bytes>,
+    contents: &Contents,
 ) -> Result<Finished, End<Refusal>>
     requires bounds { InBounds asked.now.settings }
     requires order { ordered ir.now }
     requires values { typed ir.now }
-    ensures stage { Answers (LinksIr (picked_view asked.now) text.now ir.now) result }
-    ensures simulated { OnOk result (SimulatesIr (picked_view asked.now) text.now ir.now) }
+    ensures stage { Answers (LinksIr (picked_view asked.now) (contents_view contents.now) ir.now) result }
+    ensures simulated { OnOk result (SimulatesIr (picked_view asked.now) (contents_view contents.now) ir.now) }
 {
-    let program = load_program(alloc, asked, ir)?;
-    link_under(alloc, &program, text)
+    let program = load_program(alloc, asked, ir, contents.of(Role::Patch))?;
+    link_under(alloc, &program, contents.of(Role::Layout))
 }
 
-/// Links a module's program to an image.
+/// Links the program of a module and its patches to an image.
 pub fn link(
     alloc: Global,
     asked: &Picked<'_>,
@@ -142,5 +142,5 @@ pub fn link(
     ensures simulated { OnOk result (SimulatesFile (picked_view asked.now) (contents_view contents.now)) }
 {
     let ir = read_ir(alloc, contents.bytes(Role::In))?;
-    link_ir(alloc, asked, &ir, contents.of(Role::Layout))
+    link_ir(alloc, asked, &ir, contents)
 }

@@ -3,7 +3,7 @@ ghost use Rattle.gt_front.specs.Note.{note};
 
 use crate::answer::Answer;
 use gr_base::Text;
-use note_texts::{CheckNote, LayoutNote, LinkNote};
+use note_texts::{CheckNote, LayoutNote, LinkNote, PatchNote, RewriteNote};
 use std::alloc::{AllocError, Global};
 use std::fmt;
 
@@ -20,6 +20,8 @@ impl fmt::Display for Answer {
             Answer::TooLarge(role) => write!(f, "too large: {role}"),
             Answer::Format(fault) => write!(f, "format: {fault}"),
             Answer::Check(fault) => write!(f, "check {}", CheckNote(fault)),
+            Answer::Patch(fault) => write!(f, "patch {}", PatchNote(*fault)),
+            Answer::Rewrite(fault) => write!(f, "rewrite {}", RewriteNote(*fault)),
             Answer::Layout(fault) => write!(f, "layout {}", LayoutNote(*fault)),
             Answer::Link(fault) => write!(f, "link {}", LinkNote(*fault)),
             Answer::Image(fault) => write!(f, "image at {}", fault.place),

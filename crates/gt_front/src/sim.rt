@@ -91,34 +91,34 @@ fn sim_program(
     sim_under(alloc, program, &shape, &layout, input, steps)
 }
 
-/// The symbolic run of the module that the words ask for.
+/// The symbolic run of the program that the words ask for.
 fn sim_ir(
     alloc: Global,
     asked: &Picked<'_>,
     ir: &Ir,
-    text: &Option<Bytes>,
-    input: &[u8],
+    contents: &Contents,
 ) -> Result<Finished, End<Refusal>>
     requires bounds { InBounds asked.now.settings }
     requires order { ordered ir.now }
     requires values { typed ir.now }
-    ensures { Answers (SimsIr (picked_view asked.now) text.now input.now ir.now) result }
+    ensures { Answers (SimsIr (picked_view asked.now) (contents_view contents.now) ir.now) result }
 {
-    let program = load_program(alloc, asked, ir)?;
-    sim_program(alloc, program, text, input, asked.settings.steps)
+    let program = load_program(alloc, asked, ir, contents.of(Role::Patch))?;
+    let input = contents.bytes(Role::Input);
+    sim_program(
+        alloc,
+        program,
+        contents.of(Role::Layout),
+        input,
+        asked.settings.steps,
+    )
 }
 
-/// Runs a module's program on the symbolic machine, where it can be linked.
+/// Runs the program of a module and its patches on the symbolic machine, where it can be linked.
 pub fn sim(alloc: Global, asked: &Picked<'_>, contents: &Contents) -> Result<Finished, End<Refusal>>
     requires { InBounds asked.now.settings }
     ensures { Answers (Sims (picked_view asked.now) (contents_view contents.now)) result }
 {
     let ir = read_ir(alloc, contents.bytes(Role::In))?;
-    sim_ir(
-        alloc,
-        asked,
-        &ir,
-        contents.of(Role::Layout),
-        contents.bytes(Role::Input),
-    )
+    sim_ir(alloc, asked, &ir, contents)
 }

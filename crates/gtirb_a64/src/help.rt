@@ -9,15 +9,17 @@ Each job reads the files that its words name and writes one. The name - is stand
   check in=FILE [module=N] [plain=*] [plain=N,N..] [isa=N]
       say whether a module of a GTIRB file is a program, and how much there is of everything, or the
       first thing that is wrong with it; plain= names the flags of expressions that change nothing
-  layout in=FILE out=FILE [module=N] [plain=..] [isa=N]
-      write the default layout of a module's program: where its byte intervals and the stack lie
-  link in=FILE out=IMAGE [layout=FILE] [module=N] [plain=..] [isa=N]
-      link a module's program to a bare image, under a layout or the default one
+  layout in=FILE out=FILE [patch=FILE] [module=N] [plain=..] [isa=N]
+      write the default layout of a module's program: where its byte intervals and the stack lie;
+      patch= names a text of instructions and functions to insert (docs/PATCHES.md)
+  link in=FILE out=IMAGE [patch=FILE] [layout=FILE] [module=N] [plain=..] [isa=N]
+      link a module's program, with its patches, to a bare image, under a layout or the default one
   run in=IMAGE out=FILE [input=FILE] [steps=N]
       run a bare image for at most N instructions (1,000,000 unless said) and write its output
-  sim in=FILE out=FILE [input=FILE] [steps=N] [layout=FILE] [module=N] [plain=..] [isa=N]
-      run a module's program without making an address a number, where it can be linked, and write its
-      output; says where and why the program leaves what every layout shares (docs/STUCK.md)
+  sim in=FILE out=FILE [patch=FILE] [input=FILE] [steps=N] [layout=FILE] [module=N] [plain=..]
+      [isa=N]
+      run a module's program beside its patches without making an address a number, where it can be
+      linked, and write its output; says where and why the program leaves what every layout shares (docs/STUCK.md)
   demo seed=N blocks=N out=FILE
       make a program of so many blocks (1 to 100,000) that add constants, which begin at the seed, and
       write it as a GTIRB file

@@ -1,17 +1,24 @@
--- The words of what is wrong with a module, a layout or a link: the fault's number, and then its contents.
+-- The words of what is wrong with a module, a patch text, a layout or a link: the fault's number, and then its contents.
 use Rattle.std.specs.Prelude.{ℕ, List, ◌++◌, codes}
 use Rattle.std.specs.Fmt.{decimal, signed_decimal}
 use Rattle.uuid.specs.Text.{lower, hyphenated_text}
 use Rattle.gr_base.specs.declared.aux_fault.AuxFault.{AuxFault}
 use Rattle.gr_base.specs.declared.aux_fault.AuxFault.TheVariants.{Short, Rest, BadBool, BadVariant, BadUtf8, Duplicate}
+use Rattle.asm_read.specs.declared.fault.TextReason.{TextReason}
+use Rattle.asm_read.specs.declared.fault.TextReason.TheVariants as reasons
 use Rattle.layout_plan.specs.declared.fault.LayoutFault.{LayoutFault}
 use Rattle.layout_plan.specs.declared.fault.LayoutFault.TheVariants as layouts
 use Rattle.node_arena.specs.declared.fault.CheckFault.{CheckFault}
 use Rattle.node_arena.specs.declared.fault.CheckFault.TheVariants as checks
+use Rattle.patch_lines.specs.declared.fault.PatchFault.{PatchFault}
+use Rattle.patch_lines.specs.declared.fault.PatchReason.{PatchReason}
+use Rattle.patch_lines.specs.declared.fault.PatchReason.TheVariants as patches
 use Rattle.sym_expr.specs.declared.layout.Spot.{Spot}
 use Rattle.sym_expr.specs.declared.layout.Spot.TheVariants.{Stack, Interval}
 use Rattle.sym_expr.specs.declared.link_fault.LinkFault.{LinkFault}
 use Rattle.sym_expr.specs.declared.link_fault.LinkFault.TheVariants as links
+use Rattle.taken_ids.specs.declared.fault.RewriteFault.{RewriteFault}
+use Rattle.taken_ids.specs.declared.fault.RewriteFault.TheVariants.{IdTaken}
 
 -- an identifier
 abbrev pub id_text : List ℕ → List ℕ
@@ -49,6 +56,30 @@ check_text (checks.BadPlace table id offset) = codes "15 " ++ spaced table (spac
 check_text (checks.Flag interval offset flag) = codes "16 " ++ spaced (id_text interval) (spaced (decimal offset) (signed_decimal flag))
 check_text (checks.BadOperand interval offset) = codes "17 " ++ spaced (id_text interval) (decimal offset)
 check_text (checks.BadTarget interval offset) = codes "18 " ++ spaced (id_text interval) (decimal offset)
+
+-- the number of a reason for which a line can't be read
+abbrev pub reason_text : TextReason → List ℕ
+reason_text reasons.Syntax = codes "1"
+reason_text reasons.Number = codes "2"
+reason_text reasons.LabelTwice = codes "3"
+reason_text reasons.LabelUnknown = codes "4"
+reason_text reasons.Directive = codes "5"
+
+abbrev pub patch_reason_text : PatchReason → List ℕ
+patch_reason_text (patches.Text reason) = codes "1 " ++ reason_text reason
+patch_reason_text patches.UnknownBlock = codes "2"
+patch_reason_text patches.BadOffset = codes "3"
+patch_reason_text patches.NameTaken = codes "4"
+patch_reason_text patches.TooMany = codes "5"
+patch_reason_text patches.UnknownName = codes "6"
+patch_reason_text patches.Ambiguous = codes "7"
+patch_reason_text patches.BadTarget = codes "8"
+
+abbrev pub patch_text : PatchFault → List ℕ
+patch_text fault = codes "line " ++ (decimal fault.line ++ (codes " reason " ++ patch_reason_text fault.reason))
+
+abbrev pub rewrite_text : RewriteFault → List ℕ
+rewrite_text (IdTaken id) = codes "1 " ++ id_text id
 
 abbrev pub spot_text : Spot → List ℕ
 spot_text Stack = codes "stack"

@@ -1,13 +1,16 @@
-//! The words of what is wrong with a module, a layout or a link.
+//! The words of what is wrong with a module, a patch text, a layout or a link.
 
 ghost use Rattle.std.specs.Prelude.{Some};
-ghost use Rattle.note_texts.specs.FaultTexts.{aux_text, check_text, layout_text, link_text, spot_text};
+ghost use Rattle.note_texts.specs.FaultTexts.{aux_text, check_text, layout_text, link_text, patch_reason_text, patch_text, reason_text, rewrite_text, spot_text};
 
+use asm_read::TextReason;
 use gr_base::AuxFault;
 use layout_plan::LayoutFault;
 use node_arena::CheckFault;
+use patch_lines::{PatchFault, PatchReason};
 use std::fmt;
 use sym_expr::{LinkFault, Spot};
+use taken_ids::RewriteFault;
 
 /// The fault of a table's bytes in a note: its number and its place.
 #[derive(Clone, Copy)]
@@ -57,6 +60,72 @@ impl fmt::Display for CheckNote<'_> {
             CheckFault::Flag(interval, offset, flag) => write!(f, "16 {interval} {offset} {flag}"),
             CheckFault::BadOperand(interval, offset) => write!(f, "17 {interval} {offset}"),
             CheckFault::BadTarget(interval, offset) => write!(f, "18 {interval} {offset}"),
+        }
+    }
+}
+
+/// Why a line can't be read, in a note: its number.
+#[derive(Clone, Copy)]
+struct ReasonNote(TextReason);
+
+impl fmt::Display for ReasonNote {
+    ghost output = { λ note. Some (reason_text note.0) };
+
+    fn fmt<W: fmt::Write>(&self, f: &mut fmt::Formatter<W>) -> fmt::Result {
+        match self.0 {
+            TextReason::Syntax => write!(f, "1"),
+            TextReason::Number => write!(f, "2"),
+            TextReason::LabelTwice => write!(f, "3"),
+            TextReason::LabelUnknown => write!(f, "4"),
+            TextReason::Directive => write!(f, "5"),
+        }
+    }
+}
+
+/// What is wrong with a line of patch text, in a note.
+#[derive(Clone, Copy)]
+struct PatchReasonNote(PatchReason);
+
+impl fmt::Display for PatchReasonNote {
+    ghost output = { λ note. Some (patch_reason_text note.0) };
+
+    fn fmt<W: fmt::Write>(&self, f: &mut fmt::Formatter<W>) -> fmt::Result {
+        match self.0 {
+            PatchReason::Text(reason) => write!(f, "1 {}", ReasonNote(reason)),
+            PatchReason::UnknownBlock => write!(f, "2"),
+            PatchReason::BadOffset => write!(f, "3"),
+            PatchReason::NameTaken => write!(f, "4"),
+            PatchReason::TooMany => write!(f, "5"),
+            PatchReason::UnknownName => write!(f, "6"),
+            PatchReason::Ambiguous => write!(f, "7"),
+            PatchReason::BadTarget => write!(f, "8"),
+        }
+    }
+}
+
+/// What is wrong with a patch text, and in which line, in a note.
+#[derive(Clone, Copy)]
+pub struct PatchNote(pub PatchFault);
+
+impl fmt::Display for PatchNote {
+    ghost output = { λ note. Some (patch_text note.0) };
+
+    fn fmt<W: fmt::Write>(&self, f: &mut fmt::Formatter<W>) -> fmt::Result {
+        let PatchFault { line, reason } = self.0;
+        write!(f, "line {line} reason {}", PatchReasonNote(reason))
+    }
+}
+
+/// Why patches can't be brought into a module, in a note.
+#[derive(Clone, Copy)]
+pub struct RewriteNote(pub RewriteFault);
+
+impl fmt::Display for RewriteNote {
+    ghost output = { λ note. Some (rewrite_text note.0) };
+
+    fn fmt<W: fmt::Write>(&self, f: &mut fmt::Formatter<W>) -> fmt::Result {
+        match self.0 {
+            RewriteFault::IdTaken(id) => write!(f, "1 {id}"),
         }
     }
 }

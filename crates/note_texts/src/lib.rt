@@ -5,6 +5,6 @@ mod fault_text;
 mod sim_state;
 mod state;
 
-pub use fault_text::{CheckNote, LayoutNote, LinkNote};
+pub use fault_text::{CheckNote, LayoutNote, LinkNote, PatchNote, RewriteNote};
 pub use sim_state::sim_note;
 pub use state::state_note;

@@ -2,3 +2,4 @@ pub mod Texts
 pub mod Sayings
 pub mod Tables
 pub mod Typed
+pub mod Results

@@ -2,6 +2,7 @@
 #![tactic(auto)]
 
 mod asm;
+pub mod laws;
 mod line;
 mod own;
 mod reading;

@@ -1,6 +1,6 @@
 use Rattle.std.proofs.Common.{subst, Ok}
 use Rattle.sym_expr.specs.declared.shape.Shape.{Shape}
-use Rattle.gt_front.specs.Modules.{laid}
+use Rattle.gt_front.specs.Linking.{laid}
 use Rattle.gt_front.specs.Simulated.{IsSimulated, SimulatesProgram}
 use Rattle.gt_front.proofs.Chains.{on_ok_map}
 use Rattle.gt_front.proofs.link.link_under.Goals as goal

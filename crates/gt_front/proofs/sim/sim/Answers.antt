@@ -1,9 +1,9 @@
-use Rattle.std.proofs.Common.{subst, ℕ, List, Option, Err}
+use Rattle.std.proofs.Common.{subst, ℕ, List, Err}
 use Rattle.gt_read.specs.File.{file}
-use Rattle.command_words.specs.declared.role.Role.TheVariants.{In, Input, Layout}
+use Rattle.command_words.specs.declared.role.Role.TheVariants.{In}
+use Rattle.command_words.specs.Picked.{picked_view}
 use Rattle.gt_front.specs.Inputs.{bytes_in}
 use Rattle.gt_front.specs.Sim.{SimsIr}
-use Rattle.command_words.specs.Picked.{picked_view}
 use Rattle.gt_front.specs.Reads.{contents_view}
 use Rattle.gt_front.specs.Stages.{Answers, meant}
 use Rattle.gt_front.proofs.Chains.{chain_goes, chain_stops}
@@ -14,7 +14,7 @@ returns-in_err-ir c =
     let asked = picked_view c.args.asked.now in
     let contents = contents_view c.args.contents.now in
     let stopped = subst (λ (bytes : List ℕ). Answers (meant bytes) (Err c.in_err-ir.field-0.0)) c.bytes.ensures c.in_err-ir.ensures.stage in
-    chain_stops (meant (bytes_in contents In)) (λ ir. SimsIr asked (contents Layout) (bytes_in contents Input) ir) _ _ stopped c.from_residual.ensures.1
+    chain_stops (meant (bytes_in contents In)) (λ ir. SimsIr asked contents ir) _ _ stopped c.from_residual.ensures.1
 
 pub returns : goal.returns
 returns c =
@@ -22,6 +22,4 @@ returns c =
     let contents = contents_view c.args.contents.now in
     let ir = c.in_ok-ir.ir in
     let found = subst (λ (bytes : List ℕ). file bytes ir) c.bytes.ensures c.in_ok-ir.ensures.stage in
-    let first = subst (λ (text : Option (List ℕ)). Answers (SimsIr asked text c.bytes-2.result.now ir) c.sim_ir.result) c.of.ensures c.sim_ir.ensures in
-    let ran = subst (λ (bytes : List ℕ). Answers (SimsIr asked (contents Layout) bytes ir) c.sim_ir.result) c.bytes-2.ensures first in
-    chain_goes (meant (bytes_in contents In)) (λ x. SimsIr asked (contents Layout) (bytes_in contents Input) x) ir c.sim_ir.result found ran
+    chain_goes (meant (bytes_in contents In)) (λ x. SimsIr asked contents x) ir c.sim_ir.result found c.sim_ir.ensures

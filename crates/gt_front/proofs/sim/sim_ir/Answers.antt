@@ -1,19 +1,29 @@
-use Rattle.std.proofs.Common.{◌≡◌, subst, sym, Ok}
-use Rattle.sym_expr.specs.declared.program.Program.{Program}
-use Rattle.module_program.specs.Graphs.{program_in}
-use Rattle.gt_front.specs.Modules.{program_module}
+use Rattle.std.proofs.Common.{Err, Ok, Option, List, ℕ, subst}
+use Rattle.command_words.specs.declared.role.Role.TheVariants.{Input, Layout, Patch}
 use Rattle.command_words.specs.Picked.{picked_view}
+use Rattle.gt_front.specs.Inputs.{bytes_in}
+use Rattle.gt_front.specs.Programs.{Programs}
+use Rattle.gt_front.specs.Reads.{contents_view}
 use Rattle.gt_front.specs.Sim.{SimsProgram}
-use Rattle.gt_front.specs.Stages.{Answers, exactly}
-use Rattle.gt_front.proofs.Chains.{chain_goes}
-use Rattle.gt_front.proofs.Programs.{bind_gave}
+use Rattle.gt_front.specs.Stages.{Answers}
+use Rattle.gt_front.proofs.Chains.{chain_goes, chain_stops}
 use Rattle.gt_front.proofs.sim.sim_ir.Goals as goal
+
+pub returns-in_err-program : goal.returns-in_err-program
+returns-in_err-program c =
+    let asked = picked_view c.args.asked.now in
+    let contents = contents_view c.args.contents.now in
+    let steps = c.args.asked.now.settings.steps in
+    let stopped = subst (λ (text : Option (List ℕ)). Answers (Programs asked text c.args.ir.now) (Err c.in_err-program.field-0.0)) c.of.ensures c.in_err-program.ensures.stage in
+    chain_stops (Programs asked (contents Patch) c.args.ir.now) (λ g. SimsProgram (contents Layout) (bytes_in contents Input) steps g) _ _ stopped c.from_residual.ensures.1
 
 pub returns : goal.returns
 returns c =
-    let known = program_module (picked_view c.args.asked.now) c.args.ir.now in
-    let found = bind_gave known (λ m. Ok (program_in m)) c.in_ok-program.program c.in_ok-program.ensures.made in
-    let made = found.2 in
-    let same : c.in_ok-program.program ≡ program_in found.0 = cc in
-    let linked = subst (λ (g : Program). Answers (SimsProgram c.args.text.now c.args.input.now c.args.asked.now.settings.steps g) c.sim_program.result) same c.sim_program.ensures in
-    chain_goes (exactly known) (λ m. SimsProgram c.args.text.now c.args.input.now c.args.asked.now.settings.steps (program_in m)) found.0 c.sim_program.result (sym found.1) linked
+    let asked = picked_view c.args.asked.now in
+    let contents = contents_view c.args.contents.now in
+    let steps = c.args.asked.now.settings.steps in
+    let g = c.in_ok-program.program in
+    let found = subst (λ (text : Option (List ℕ)). Programs asked text c.args.ir.now (Ok g)) c.of.ensures c.in_ok-program.ensures.stage in
+    let first = subst (λ (text : Option (List ℕ)). Answers (SimsProgram text c.bytes-input.result.now steps g) c.sim_program.result) c.of-2.ensures c.sim_program.ensures in
+    let ran = subst (λ (bytes : List ℕ). Answers (SimsProgram (contents Layout) bytes steps g) c.sim_program.result) c.bytes-input.ensures first in
+    chain_goes (Programs asked (contents Patch) c.args.ir.now) (λ g. SimsProgram (contents Layout) (bytes_in contents Input) steps g) g c.sim_program.result found ran
