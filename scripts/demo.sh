@@ -8,7 +8,8 @@ command -v rt >/dev/null || { echo "demo: the Rattle kit's rt is not on the path
 work=$(mktemp -d) || exit 1
 trap 'rm -rf "$work"' EXIT
 examples=$PWD/../../examples
-mkdir "$work/images"
+mkdir "$work/images" "$work/to_patch"
+cp "$examples/programs/checksum_o1.gtirb" "$work/to_patch"
 
 # A job's words, the folder whose files it takes one by one from standard input, and each file with the exit
 # status and the line that is answered.
@@ -33,17 +34,19 @@ run hello.image 0 steps=8 exit 0
 sim exit_three.gtirb 0 steps=4 exit 3
 sim checksum_o1.gtirb 0 steps=23708 exit 0
 sim checksum_os.gtirb 0 steps=22145 exit 0
+patched checksum_o1.gtirb 0 done bytes=4620
 linked exit_three.gtirb 0 steps=4 exit 3
 linked checksum_o1.gtirb 0 steps=23708 exit 0
 linked checksum_os.gtirb 0 steps=22145 exit 0
+linked patched-checksum_o1.gtirb 0 steps=50142 exit 0
 '
 
-# Does a job with each file of a folder: name, words, folder.
+# Does a job with each file of a folder: name, words, folder, and a further word.
 job() {
     local name=$1 folder=$3
     local -a words
     read -ra words <<<"$2"
-    rt try --cases "$folder" -- "${words[@]}" >"$work/$name" 2>&1
+    rt try --cases "$folder" -- "${words[@]}" "${@:4}" >"$work/$name" 2>&1
 }
 
 # The line before that of a case, and the case's status.
@@ -51,13 +54,14 @@ answered() {
     LC_ALL=C awk -v name="$2" 'index($0, "case=" name " ") == 1 { sub("status=", "", $3); print $3 " " last } { last = $0 }' "$work/$1"
 }
 
-# The images that `link` wrote, each as a file of its own, cut out by their mark and their length.
+# The images that a job wrote, each as a file of its own, cut out by their mark and their length: the job's name, and
+# what stands before the names of the files.
 keep_images() {
     local start name length
-    paste -d ' ' <(LC_ALL=C grep -abo GRIMG001 "$work/link" | cut -d: -f1) \
-        <(LC_ALL=C awk 'index($0, "case=") == 1 { sub("case=", "", $1); sub(".*done bytes=", "", last); print $1, last } { last = $0 }' "$work/link") |
+    paste -d ' ' <(LC_ALL=C grep -abo GRIMG001 "$work/$1" | cut -d: -f1) \
+        <(LC_ALL=C awk 'index($0, "case=") == 1 { sub("case=", "", $1); sub(".*done bytes=", "", last); print $1, last } { last = $0 }' "$work/$1") |
         while read -r start name length; do
-            tail -c +"$((start + 1))" "$work/link" | head -c "$length" >"$work/images/$name"
+            tail -c +"$((start + 1))" "$work/$1" | head -c "$length" >"$work/images/$2$name"
         done
 }
 
@@ -69,9 +73,12 @@ show() {
 
 # The jobs are built side by side.
 while IFS='|' read -r words folder; do job "${words%% *}" "$words" "$examples/$folder" & done <<<"$jobs"
+job patched "link in=- out=- plain=*" "$work/to_patch" "patch=$examples/patches/checksum_o1.patch" &
 wait
 while IFS='|' read -r words folder; do show "${words%% *}" "$words" "examples/$folder"; done <<<"$jobs"
-keep_images
+show patched "link in=- out=- plain=* patch=examples/patches/checksum_o1.patch" "checksum_o1.gtirb"
+keep_images link ""
+keep_images patched patched-
 job linked "run in=- out=-" "$work/images"
 show linked "run in=- out=-" "what link wrote"
 
@@ -84,9 +91,10 @@ while read -r name file answer; do
     fi
 done <<<"$answers"
 for output in "$examples"/outputs/*; do
-    if ! grep -aqxFf "$output" "$work/linked"; then
-        echo "demo: no image writes what $(basename "$output") has"
+    while read -r line; do
+        grep -aqxF "$line" "$work/linked" && continue
+        echo "demo: no image writes the line \"$line\" of $(basename "$output")"
         status=1
-    fi
+    done <"$output"
 done
 exit "$status"
