@@ -7,7 +7,7 @@ use Rattle.command_words.specs.declared.role.Role.{Role}
 use Rattle.command_words.specs.declared.role.Role.TheVariants as roles
 use Rattle.command_words.specs.declared.table.TheConstants.{JOBS, NAMES}
 use Rattle.command_words.specs.declared.table.Job.{Job}
-use Rattle.command_words.specs.declared.table.Job.TheVariants.{Recode, Check, Run, Sim, Demo}
+use Rattle.command_words.specs.declared.table.Job.TheVariants.{Recode, Check, Rewrite, Run, Sim, Demo}
 use Rattle.command_words.specs.declared.table.Job.TheVariants.{Layout as LayoutJob, Link as LinkJob}
 use Rattle.command_words.specs.declared.table.Kind.{Kind}
 use Rattle.command_words.specs.declared.table.WordName.{WordName}
@@ -48,6 +48,7 @@ job_named word = option_map (λ row. row.job) (find (λ row. bytes_eq row.text w
 abbrev pub same_job : Job → Job → Bool
 same_job Recode Recode = true
 same_job Check Check = true
+same_job Rewrite Rewrite = true
 same_job LayoutJob LayoutJob = true
 same_job LinkJob LinkJob = true
 same_job Run Run = true

@@ -13,6 +13,8 @@ pub enum Job {
     Recode,
     /// Says whether a module is a program, and how much there is of everything.
     Check,
+    /// Inserts patches in a module and writes the GTIRB file.
+    Rewrite,
     /// Writes the default layout of a module's program.
     Layout,
     /// Links a module's program to an image.
@@ -109,13 +111,24 @@ type JobRow = (Job, &'static str, &'static [WordName], &'static [WordName]);
 pub type NameRow = (WordName, &'static str, Kind);
 
 /// The jobs.
-pub const JOBS: [JobRow; 7] = [
+pub const JOBS: [JobRow; 8] = [
     (Job::Recode, "recode", &[WordName::In, WordName::Out], &[]),
     (
         Job::Check,
         "check",
         &[WordName::In],
         &[WordName::Module, WordName::Plain, WordName::Isa],
+    ),
+    (
+        Job::Rewrite,
+        "rewrite",
+        &[WordName::In, WordName::Out],
+        &[
+            WordName::Patch,
+            WordName::Module,
+            WordName::Plain,
+            WordName::Isa,
+        ],
     ),
     (
         Job::Layout,

@@ -13,7 +13,7 @@ use Rattle.num_run.specs.Run.{num_run}
 use Rattle.command_words.specs.declared.role.Role.{Role}
 use Rattle.command_words.specs.declared.role.Role.TheVariants.{In, Input}
 use Rattle.command_words.specs.declared.table.Job.{Job}
-use Rattle.command_words.specs.declared.table.Job.TheVariants.{Recode, Check, Layout, Link, Run, Sim, Demo}
+use Rattle.command_words.specs.declared.table.Job.TheVariants.{Recode, Check, Rewrite, Layout, Link, Run, Sim, Demo}
 use Rattle.gt_front.specs.Inputs.{AllHeld, Contents, HoldBytes, bytes_in, contents_of, inputs_of}
 use Rattle.gt_front.specs.Outcome.{Pass, Outcome, Verdict, makes_as}
 use Rattle.command_words.specs.Picked.{Picked, asked, picked, settings_of}
@@ -39,6 +39,7 @@ use Rattle.module_program.specs.Graphs.{program_in}
 use Rattle.gt_front.specs.Modules.{check_made, program_module}
 use Rattle.gt_front.specs.Programs.{free_program, patches_in, ModuleProgram, PatchedProgram, Programs}
 use Rattle.gt_front.specs.Linking.{laid_out, link_made, laid, laid_text, LaysIr, LinksIr, LinksProgram}
+use Rattle.gt_front.specs.Rewriting.{patches_of, repaired_free, Repairs, RepairsModule, RewritesIr}
 use Rattle.gt_front.specs.Sim.{sim_made, SimsIr, SimsProgram}
 use Rattle.gt_front.proofs.Binding.{exactly_one, exactly_some}
 use Rattle.gt_front.proofs.Chains.{chain_one, just_one, meant_one, imaged_one, chain_some, just_some, meant_some, imaged_some}
@@ -96,6 +97,20 @@ module _ (meaning : (bytes : List ℕ) (a b : Ir) → file bytes a → file byte
   programs_one : (asked : Picked) (text : Option (List ℕ)) (ir : Ir) → GivesOne (Programs asked text ir)
   programs_one asked text ir = chain_one (exactly (program_module asked ir)) (λ m. ModuleProgram ir text m) (exactly_one (program_module asked ir)) (λ m. program_one ir text m)
 
+  -- a module and its patches make one IR, or one fault
+  patched_one : (text : Option (List ℕ)) (m : Module) → GivesOne (patches_of text m)
+  patched_one None m = exactly_one _
+  patched_one (Some text) m = patches text m
+
+  repairs_one : (asked : Picked) (text : Option (List ℕ)) (ir : Ir) → GivesOne (Repairs asked text ir)
+  repairs_one asked text ir =
+      chain_one (exactly (program_module asked ir)) (λ m. RepairsModule ir text m) (exactly_one (program_module asked ir)) (λ m.
+      chain_one (patches_of text m) (λ p. exactly (repaired_free ir m p)) (patched_one text m) (λ p. exactly_one (repaired_free ir m p)))
+
+  rewrites_one : (asked : Picked) (contents : Contents) (ir : Ir) → GivesOne (RewritesIr asked contents ir)
+  rewrites_one asked contents ir =
+      chain_one (Repairs asked (contents roles.Patch) ir) (λ new. just (written (canonical new))) (repairs_one asked (contents roles.Patch) ir) (λ new. just_one (written (canonical new)))
+
   lays_one : (asked : Picked) (contents : Contents) (ir : Ir) → GivesOne (LaysIr asked contents ir)
   lays_one asked contents ir =
       chain_one (Programs asked (contents roles.Patch) ir) (λ g. just (laid_out g)) (programs_one asked (contents roles.Patch) ir) (λ g. just_one (laid_out g))
@@ -119,6 +134,8 @@ module _ (meaning : (bytes : List ℕ) (a b : Ir) → file bytes a → file byte
   makes_one Check asked passes contents =
       chain_one (meant (bytes_in contents In)) (λ ir. exactly (check_made asked ir))
       (meant_one meaning (bytes_in contents In)) (λ ir. exactly_one (check_made asked ir))
+  makes_one Rewrite asked passes contents =
+      chain_one (meant (bytes_in contents In)) (λ ir. RewritesIr asked contents ir) (meant_one meaning (bytes_in contents In)) (λ ir. rewrites_one asked contents ir)
   makes_one Layout asked passes contents =
       chain_one (meant (bytes_in contents In)) (λ ir. LaysIr asked contents ir) (meant_one meaning (bytes_in contents In)) (λ ir. lays_one asked contents ir)
   makes_one Link asked passes contents =
@@ -153,6 +170,20 @@ module _ (found : (bytes : List ℕ) → format_fault bytes ≡ None → (ir : I
   programs_some : (asked : Picked) (text : Option (List ℕ)) (ir : Ir) → GivesSome (Programs asked text ir)
   programs_some asked text ir = chain_some (exactly (program_module asked ir)) (λ m. ModuleProgram ir text m) (exactly_some (program_module asked ir)) (λ m h. program_some ir text m)
 
+  -- a module and its patches make an IR or a fault
+  patched_some : (text : Option (List ℕ)) (m : Module) → GivesSome (patches_of text m)
+  patched_some None m = exactly_some _
+  patched_some (Some text) m = patches text m
+
+  repairs_some : (asked : Picked) (text : Option (List ℕ)) (ir : Ir) → GivesSome (Repairs asked text ir)
+  repairs_some asked text ir =
+      chain_some (exactly (program_module asked ir)) (λ m. RepairsModule ir text m) (exactly_some (program_module asked ir)) (λ m h.
+      chain_some (patches_of text m) (λ p. exactly (repaired_free ir m p)) (patched_some text m) (λ p k. exactly_some (repaired_free ir m p)))
+
+  rewrites_some : (asked : Picked) (contents : Contents) (ir : Ir) → GivesSome (RewritesIr asked contents ir)
+  rewrites_some asked contents ir =
+      chain_some (Repairs asked (contents roles.Patch) ir) (λ new. just (written (canonical new))) (repairs_some asked (contents roles.Patch) ir) (λ new h. just_some (written (canonical new)))
+
   lays_some : (asked : Picked) (contents : Contents) (ir : Ir) → GivesSome (LaysIr asked contents ir)
   lays_some asked contents ir =
       chain_some (Programs asked (contents roles.Patch) ir) (λ g. just (laid_out g)) (programs_some asked (contents roles.Patch) ir) (λ g h. just_some (laid_out g))
@@ -177,6 +208,8 @@ module _ (found : (bytes : List ℕ) → format_fault bytes ≡ None → (ir : I
   makes_some Check asked passes contents are =
       chain_some (meant (bytes_in contents In)) (λ ir. exactly (check_made asked ir))
       (meant_some found excluded (bytes_in contents In)) (λ ir h. exactly_some (check_made asked ir))
+  makes_some Rewrite asked passes contents are =
+      chain_some (meant (bytes_in contents In)) (λ ir. RewritesIr asked contents ir) (meant_some found excluded (bytes_in contents In)) (λ ir h. rewrites_some asked contents ir)
   makes_some Layout asked passes contents are =
       chain_some (meant (bytes_in contents In)) (λ ir. LaysIr asked contents ir) (meant_some found excluded (bytes_in contents In)) (λ ir h. lays_some asked contents ir)
   makes_some Link asked passes contents are =

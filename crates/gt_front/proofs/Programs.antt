@@ -1,7 +1,7 @@
 -- The module that passed its checks has a program that can be laid out and linked.
-use Rattle.std.proofs.Common.{◌≡◌, ◌↔◌, ◌≤◌, ◌<◌, ◌^◌, List, [], length, Option, Some, None, Result, Ok, Err, not, refl, sym, ◌∙◌, ap, subst, arith}
+use Rattle.std.proofs.Common.{◌≡◌, ◌↔◌, ◌≤◌, ◌<◌, ◌^◌, List, [], ◌∷◌, length, Option, Some, None, Result, Ok, Err, not, refl, sym, ◌∙◌, ap, subst, arith}
 use Rattle.std.specs.Prelude.{Contains, IfOk}
-use Rattle.std.specs.Option.{option_map}
+use Rattle.std.specs.Option.{option_map, option_or}
 use Rattle.std.specs.Result.{IsErrAnd}
 use Rattle.std.proofs.lemmas.List.Concat.{length-flat_map}
 use Rattle.std.proofs.lemmas.List.Filters.{sum_by-filter_both}
@@ -17,7 +17,7 @@ use Rattle.gt_model.specs.Ordered.{ordered}
 use Rattle.gt_model.specs.Typed.{typed}
 use Rattle.ir_check.specs.declared.profile.Profile.{Profile}
 use Rattle.ir_check.specs.declared.report.CheckReport.{CheckReport}
-use Rattle.ir_check.specs.Faults.{check_fault}
+use Rattle.ir_check.specs.Faults.{aux_faults, bad_places, block_outside, check_fault, code_align, contents_long, first, large, no_entry, not_a64, overlap, thread_local}
 use Rattle.ir_check.specs.Report.{checked, report_of, unless as reported}
 use Rattle.node_arena.specs.Checking as arena
 use Rattle.sym_expr.specs.Linkable.{formed, linkable}
@@ -68,7 +68,7 @@ load_stops asked ir x m profile end links picks same fails =
     subst (λ (r : Result Module Refusal). Fails end r) (sym whole) (subst (λ (p : Profile). Fails end (checked_module p m)) same fails)
 
 -- of a module that is loaded neither the links nor the checks found a fault
-passes : (asked : Picked) (ir : Ir) (m : Module) → program_module asked ir ≡ Ok m → (fault_of_links ir ≡ None) × (check_fault (profile_of asked) m ≡ None)
+pub passes : (asked : Picked) (ir : Ir) (m : Module) → program_module asked ir ≡ Ok m → (fault_of_links ir ≡ None) × (check_fault (profile_of asked) m ≡ None)
 passes asked ir m e =
     let check : Module → Result Module Refusal = λ x. checked_module (profile_of asked) x in
     let pick : Ir → Result Module Refusal = λ x. module_in asked.settings.ordinal x >>= check in
@@ -77,6 +77,35 @@ passes asked ir m e =
     let second = bind_gave (module_in asked.settings.ordinal first.0) check m first.2 in
     let checks = unless_gave Check (check_fault (profile_of asked) second.0) second.0 m second.2 in
     (map_none arena.check_fault (fault_of_links ir) links.0, subst (λ (x : Module). check_fault (profile_of asked) x ≡ None) checks.1 checks.0)
+
+-- no Place of a table is past the size of what it names
+or_none : {A : Type 0} (a b : Option A) → option_or a b ≡ None → b ≡ None
+or_none None b e = e
+or_none (Some x) b e = absurd cc
+
+first_none : {A : Type 0} (xs : List A) → first xs ≡ None → xs ≡ []
+first_none [] e = refl
+first_none (x ∷ rest) e = absurd cc
+
+placed_where_checked : (profile : Profile) (m : Module) → check_fault profile m ≡ None → bad_places (loaded_intervals m) m.aux ≡ []
+placed_where_checked profile m e =
+    let e1 = or_none (not_a64 profile m) _ e in
+    let e2 = or_none (thread_local m) _ e1 in
+    let e3 = or_none (large m) _ e2 in
+    let e4 = or_none (contents_long m) _ e3 in
+    let e5 = or_none (block_outside m) _ e4 in
+    let e6 = or_none (overlap m) _ e5 in
+    let e7 = or_none (code_align m) _ e6 in
+    let e8 = or_none (no_entry m) _ e7 in
+    let e9 = or_none (first (aux_faults m.aux)) _ e8 in
+    first_none (bad_places (loaded_intervals m) m.aux) (left_none (first (bad_places (loaded_intervals m) m.aux)) _ e9)
+  where
+    left_none : {A : Type 0} (a b : Option A) → option_or a b ≡ None → a ≡ None
+    left_none None b e = refl
+    left_none (Some x) b e = absurd cc
+
+pub loaded_placed : (asked : Picked) (ir : Ir) (m : Module) → program_module asked ir ≡ Ok m → bad_places (loaded_intervals m) m.aux ≡ []
+loaded_placed asked ir m e = placed_where_checked (profile_of asked) m (passes asked ir m e).1
 
 -- so it has a program
 pub loaded_linkable : (asked : Picked) (ir : Ir) (m : Module) → program_module asked ir ≡ Ok m

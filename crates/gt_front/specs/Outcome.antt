@@ -3,7 +3,7 @@ use Rattle.std.specs.Prelude.{ℕ, List, Option, Some, None, Result}
 use Rattle.gr_base.specs.Desk.{Files}
 use Rattle.command_words.specs.declared.role.TheConstants.{ROLES}
 use Rattle.command_words.specs.declared.table.Job.{Job}
-use Rattle.command_words.specs.declared.table.Job.TheVariants.{Recode, Check, Layout, Link, Run, Sim, Demo}
+use Rattle.command_words.specs.declared.table.Job.TheVariants.{Recode, Check, Rewrite, Layout, Link, Run, Sim, Demo}
 use Rattle.gt_front.specs.declared.verdict.Finished.{Finished}
 use Rattle.gt_front.specs.declared.verdict.Refusal.{Refusal}
 use Rattle.gt_front.specs.Inputs.{Contents, AllHeld, files_as, contents_of}
@@ -13,6 +13,7 @@ use Rattle.gt_front.specs.Recode.{Recodes, ReadsBack}
 use Rattle.gt_front.specs.Run.{Runs}
 use Rattle.gt_front.specs.Modules.{Checks}
 use Rattle.gt_front.specs.Linking.{Lays, Links}
+use Rattle.gt_front.specs.Rewriting.{Rewrites, RewritesFile}
 use Rattle.gt_front.specs.Simulated.{SimulatesFile}
 use Rattle.gt_front.specs.Sim.{Sims}
 use Rattle.gt_front.specs.Demo.{Demos}
@@ -29,6 +30,7 @@ Verdict = Result Finished Refusal
 abbrev pub makes_as : Job → Picked → List Pass → Contents → Stage Finished
 makes_as Recode asked passes contents = Recodes contents
 makes_as Check asked passes contents = Checks asked contents
+makes_as Rewrite asked passes contents = Rewrites asked contents
 makes_as Layout asked passes contents = Lays asked contents
 makes_as Link asked passes contents = Links asked contents
 makes_as Run asked passes contents = Runs asked.settings contents
@@ -42,6 +44,7 @@ makes asked passes contents = makes_as asked.job asked passes contents
 -- what each job promises beside that, where it is done with these contents
 abbrev pub PromisesAs : Job → Picked → Contents → Type 0
 PromisesAs Recode asked contents = ReadsBack contents
+PromisesAs Rewrite asked contents = RewritesFile asked contents
 PromisesAs Link asked contents = SimulatesFile asked contents
 PromisesAs _ asked contents = Unit {0}
 

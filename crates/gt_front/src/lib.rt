@@ -5,6 +5,7 @@
 mod answer;
 mod check;
 mod demo;
+mod formed;
 mod inputs;
 pub mod laws;
 mod layout;
@@ -14,6 +15,7 @@ mod note;
 mod output;
 mod program;
 mod recode;
+mod rewriting;
 mod run;
 mod serve;
 mod sim;

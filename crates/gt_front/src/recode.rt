@@ -37,7 +37,7 @@ pub fn written(alloc: Global, out: Bytes) -> Result<Finished, AllocError>
 }
 
 /// The canonical file of an IR.
-fn spelled(alloc: Global, ir: &Ir) -> Result<Finished, AllocError>
+pub fn spelled(alloc: Global, ir: &Ir) -> Result<Finished, AllocError>
     requires order { ordered ir.now }
     requires version { ir.now.version < 256 }
     ensures made { IfOk result (λ made. made ≡ written (canonical ir.now)) }

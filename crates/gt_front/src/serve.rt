@@ -19,6 +19,7 @@ use crate::layout::layout;
 use crate::link::link;
 use crate::output::write_output;
 use crate::recode::recode;
+use crate::rewriting::rewrite;
 use crate::run::run;
 use crate::sim::sim;
 use crate::verdict::{Finished, Refusal};
@@ -36,6 +37,7 @@ fn make(alloc: Global, asked: &Picked<'_>, contents: &Contents) -> Result<Finish
     match asked.job {
         Job::Recode => recode(alloc, contents),
         Job::Check => check(alloc, asked, contents),
+        Job::Rewrite => rewrite(alloc, asked, contents),
         Job::Layout => layout(alloc, asked, contents),
         Job::Link => link(alloc, asked, contents),
         Job::Run => run(alloc, asked.settings, contents),

@@ -9,9 +9,12 @@ Each job reads the files that its words name and writes one. The name - is stand
   check in=FILE [module=N] [plain=*] [plain=N,N..] [isa=N]
       say whether a module of a GTIRB file is a program, and how much there is of everything, or the
       first thing that is wrong with it; plain= names the flags of expressions that change nothing
+  rewrite in=FILE out=FILE [patch=FILE] [module=N] [plain=..] [isa=N]
+      write the GTIRB file with instructions and functions inserted in a module, which the text that
+      patch= names says (docs/PATCHES.md), its edges and tables repaired
   layout in=FILE out=FILE [patch=FILE] [module=N] [plain=..] [isa=N]
-      write the default layout of a module's program: where its byte intervals and the stack lie;
-      patch= names a text of instructions and functions to insert (docs/PATCHES.md)
+      write the default layout of a module's program, with its patches: where its byte intervals and
+      the stack lie
   link in=FILE out=IMAGE [patch=FILE] [layout=FILE] [module=N] [plain=..] [isa=N]
       link a module's program, with its patches, to a bare image, under a layout or the default one
   run in=IMAGE out=FILE [input=FILE] [steps=N]

@@ -1,0 +1,14 @@
+pub mod Counts
+pub mod Lists
+pub mod Kept
+pub mod Members
+pub mod Views
+pub mod Apart
+pub mod Types
+pub mod Starts
+pub mod Free
+pub mod Sixteen
+pub mod Typed
+pub mod Whole
+pub mod KindLists
+pub mod Stay

@@ -1,0 +1,4 @@
+pub mod Blocks
+pub mod Intervals
+pub mod Kept
+pub mod Moved

@@ -1,0 +1,9 @@
+pub mod Lists
+pub mod Keys
+pub mod Labels
+pub mod Inserts
+pub mod Ends
+pub mod PartEnds
+pub mod FunctionEnds
+pub mod OldEdges
+pub mod Cfgs

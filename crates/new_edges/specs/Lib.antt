@@ -1,0 +1,10 @@
+pub mod NewEnds
+pub mod Blocks
+pub mod Keyed
+pub mod Loaded
+pub mod Names
+pub mod Knowing
+pub mod Parts
+pub mod Functions
+pub mod Leaving
+pub mod Whole

@@ -1,0 +1,4 @@
+pub mod Apart
+pub mod Lists
+pub mod OneModule
+pub mod Shares

@@ -1,0 +1,5 @@
+pub mod Apart
+pub mod Cutting
+pub mod Labels
+pub mod Lasts
+pub mod Lists
