@@ -46,6 +46,7 @@ of_instruction texts (items.Zero count) is = absurd is
 of_instruction texts (items.Quad e) is = absurd is
 of_instruction texts (items.QuadDiff first second offset) is = absurd is
 of_instruction texts (items.WordDiff first second offset) is = absurd is
+of_instruction texts (items.Entry size scale first second) is = absurd is
 
 pub instruction : (texts : List (List ℕ)) → Decided ((item : AsmItem) × IsInstruction texts item)
 instruction texts = as_well

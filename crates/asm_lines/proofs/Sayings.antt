@@ -92,6 +92,7 @@ parts texts (items.Zero count) is = absurd is
 parts texts (items.Quad e) is = absurd is
 parts texts (items.QuadDiff first second offset) is = absurd is
 parts texts (items.WordDiff first second offset) is = absurd is
+parts texts (items.Entry size scale first second) is = absurd is
 
 pub no_instruction : (texts : List (List ℕ)) → ((s : Spelled) → HasForm Fitting texts s → ⊥) → (item : AsmItem) → IsInstruction texts item → ⊥
 no_instruction texts none item is = let p = parts texts item is in none p.2 p.4
@@ -135,6 +136,7 @@ no_single_item law word (items.Zero count) is = is
 no_single_item law word (items.Quad e) is = is
 no_single_item law word (items.QuadDiff first second offset) is = is
 no_single_item law word (items.WordDiff first second offset) is = is
+no_single_item law word (items.Entry size scale first second) is = is
 
 pub no_single_shape : FormsBegin → (word : List ℕ) → HasInstructionShape (word ∷ []) → ⊥
 no_single_shape law word is = no_single law Any word is.0 is.1
@@ -164,6 +166,7 @@ no_directive_item law words (items.Zero count) d is = is
 no_directive_item law words (items.Quad e) d is = is
 no_directive_item law words (items.QuadDiff first second offset) d is = is
 no_directive_item law words (items.WordDiff first second offset) d is = is
+no_directive_item law words (items.Entry size scale first second) d is = is
 
 no_words : (first : List ℕ) (rest : List (List ℕ)) → [] ≡ first ∷ rest → ⊥
 no_words first rest e = cc

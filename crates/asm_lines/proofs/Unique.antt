@@ -21,7 +21,7 @@ use Rattle.asm_lines.specs.Labels.{EndsLabel, HasFront, HasName, IsLabel, IsOrdi
 use Rattle.asm_lines.specs.Lines.{IsLine, WordsSay}
 use Rattle.asm_lines.specs.Texts.{texts_of}
 use Rattle.asm_lines.proofs.Escapes.{heads, not_itself, tails, whole_name}
-use Rattle.asm_lines.proofs.Fronts.{behind_quote, behind_sharp, front_name, label_front, no_some, same_digits, same_label, without_quote}
+use Rattle.asm_lines.proofs.Fronts.{behind_quote, behind_sharp, front_name, label_front, label_then, no_some, same_digits, same_label, without_quote}
 use Rattle.asm_lines.proofs.Offsets.{empty_offset, expression_ends, expression_front, same_expression, signed_part}
 use Rattle.asm_lines.proofs.Runs.{all_of_bare, digits_are, label_stops_digit, one_run}
 use Rattle.asm_lines.proofs.Sayings.{FormsBegin, OneForm, OneSplit, instruction_only, label_only}
@@ -84,6 +84,12 @@ one_label word a b is js =
     let q = one_front word a.name b.name a.ordinal b.ordinal [] [] (label_front word a is) (label_front word b js) tt tt in
     same_label a b q.0 q.1
 
+-- what stands ahead of the end or of a sign is one label
+pub one_label_ahead : (text a x b y : List ℕ) (m n : AsmName) → text ≡ a ++ x → text ≡ b ++ y → IsLabel a m → IsLabel b n → EndsLabel x → EndsLabel y → (m ≡ n) × (x ≡ y)
+one_label_ahead text a x b y m n e f is js s t =
+    let q = one_front text m.name n.name m.ordinal n.ordinal x y (label_then text a x m e is) (label_then text b y n f js) s t in
+    (same_label m n q.0 q.1, q.2)
+
 -- ---- expressions
 
 -- the law of numbers: a word spells one at most
@@ -99,7 +105,7 @@ one_offset law text a b is js = elim js [
   | inr h ↦ one_signed law h.0 h.1 a b (signed_part text h.1 h.0 h.2 a is) h.3
 ]
 
-one_expression : OneNumber → (text : List ℕ) (a b : AsmExpr) → IsExpression text a → IsExpression text b → a ≡ b
+pub one_expression : OneNumber → (text : List ℕ) (a b : AsmExpr) → IsExpression text a → IsExpression text b → a ≡ b
 one_expression law text a b is js =
     let q = one_front text a.label.name b.label.name a.label.ordinal b.label.ordinal is.offset js.offset (expression_front text a is) (expression_front text b js) (expression_ends text a is) (expression_ends text b js) in
     same_expression a b (same_label a.label b.label q.0 q.1) (one_offset law js.offset a.offset b.offset (subst (λ (t : List ℕ). IsOffset t a.offset) q.2 is.offset_is) js.offset_is)
@@ -127,6 +133,7 @@ one_item form law texts (items.Zero count) b is js = absurd is
 one_item form law texts (items.Quad e) b is js = absurd is
 one_item form law texts (items.QuadDiff first second offset) b is js = absurd is
 one_item form law texts (items.WordDiff first second offset) b is js = absurd is
+one_item form law texts (items.Entry size scale first second) b is js = absurd is
 
 -- ---- what words say
 
@@ -140,6 +147,7 @@ no_item begins (items.Zero count) is = is
 no_item begins (items.Quad e) is = is
 no_item begins (items.QuadDiff first second offset) is = is
 no_item begins (items.WordDiff first second offset) is = is
+no_item begins (items.Entry size scale first second) is = is
 
 no_word : (word : List ℕ) → [] ≡ word ∷ [] → ⊥
 no_word word e = cc

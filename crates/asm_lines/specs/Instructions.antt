@@ -44,6 +44,7 @@ IsInstruction texts (items.Zero count) = ⊥
 IsInstruction texts (items.Quad e) = ⊥
 IsInstruction texts (items.QuadDiff first second offset) = ⊥
 IsInstruction texts (items.WordDiff first second offset) = ⊥
+IsInstruction texts (items.Entry size scale first second) = ⊥
 
 -- they would spell a word with other numbers in the places of their number words
 abbrev pub HasInstructionShape : List (List ℕ) → Type 0

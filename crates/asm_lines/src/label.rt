@@ -85,3 +85,17 @@ pub fn read_label(alloc: Global, word: &[u8]) -> Result<AsmName, End<TextReason>
     let name = text_of(alloc, name.as_slice())?;
     Ok(AsmName { name, ordinal })
 }
+
+/// The label at the front of a text, up to its end or to a sign, and what stands behind it.
+pub fn split_label(alloc: Global, text: &[u8]) -> Result<(AsmName, &[u8]), End<TextReason>>
+    // What is read is the label that stands first.
+    ensures found { IfOk result (λ x. (label : List ℕ) × (text.now ≡ label ++ x.1.now) × IsLabel label x.0) }
+    // A label ahead of the end or of a sign is read, unless memory runs out.
+    ensures only { (label rest : List ℕ) (name : AsmName) → text.now ≡ label ++ rest → IsLabel label name → EndsLabel rest → MatchResult result (λ x. (x.0 ≡ name) × (x.1.now ≡ rest)) (λ e. e ≡ ends.Memory) }
+    ensures reason { (reason : TextReason) → result ≡ Err (ends.Fault reason) → reason ≡ Syntax }
+{
+    let mut name = Bytes::new(alloc);
+    let (ordinal, rest) = read_front(&mut name, text)?;
+    let name = text_of(alloc, name.as_slice())?;
+    Ok((AsmName { name, ordinal }, rest))
+}

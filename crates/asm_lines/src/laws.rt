@@ -1,12 +1,14 @@
 //! Laws of the definitions that contracts cite: each function is its contract.
 
-ghost use Rattle.std.specs.Prelude.{◌≡◌, ◌⊎◌, ℕ, List};
+ghost use Rattle.std.specs.Prelude.{◌≡◌, ◌⊎◌, ◌++◌, ℕ, List};
 ghost use Rattle.asm_read.specs.declared.fault.TextReason.{TextReason};
 ghost use Rattle.asm_read.specs.Words.{HasWords};
 ghost use Rattle.a64_forms.specs.Number.{IsNumber, IsNumberWord};
+ghost use Rattle.asm_lines.specs.declared.line.AsmExpr.{AsmExpr};
 ghost use Rattle.asm_lines.specs.declared.line.AsmLine.{AsmLine};
 ghost use Rattle.asm_lines.specs.declared.line.AsmName.{AsmName};
-ghost use Rattle.asm_lines.specs.Labels.{IsLabel};
+ghost use Rattle.asm_lines.specs.Expressions.{HasExpressionShape, IsExpression};
+ghost use Rattle.asm_lines.specs.Labels.{EndsLabel, IsLabel};
 ghost use Rattle.asm_lines.specs.Lines.{IsFault, IsLine};
 
 use a64_forms::laws::{form_begins, one_form, one_number};
@@ -66,4 +68,26 @@ pub fn number_or_none()
 /// A word is a number word or isn't.
 pub fn number_word_or_none()
     ensures { (word : List ℕ) → IsNumberWord word ⊎ (IsNumberWord word → ⊥) }
+{}
+
+/// What stands ahead of the end of a text or of a sign is one label at most.
+pub fn one_label_ahead()
+    ensures { (text a x b y : List ℕ) (m n : AsmName) → text ≡ a ++ x → text ≡ b ++ y → IsLabel a m → IsLabel b n → EndsLabel x → EndsLabel y → (m ≡ n) × (x ≡ y) }
+{}
+
+/// A text is one label expression at most.
+pub fn one_expression()
+    ensures { (text : List ℕ) (a b : AsmExpr) → IsExpression text a → IsExpression text b → a ≡ b }
+{
+    one_number();
+}
+
+/// A text is a label expression or none.
+pub fn expression_or_none()
+    ensures { (text : List ℕ) → ((e : AsmExpr) × IsExpression text e) ⊎ (((e : AsmExpr) × IsExpression text e) → ⊥) }
+{}
+
+/// A text has the shape of a label expression or hasn't.
+pub fn expression_shape_or_none()
+    ensures { (text : List ℕ) → HasExpressionShape text ⊎ (HasExpressionShape text → ⊥) }
 {}

@@ -13,6 +13,6 @@ mod run;
 
 pub use cut::texts_of;
 pub use expression::read_expression;
-pub use label::read_label;
+pub use label::{read_label, split_label};
 pub use line::{AsmExpr, AsmItem, AsmLine, AsmName};
 pub use reading::read_line;

@@ -30,6 +30,8 @@ pub enum AsmItem {
     QuadDiff(AsmName, AsmName, i64),
     /// A difference and an offset, of four bytes.
     WordDiff(AsmName, AsmName, i64),
+    /// An entry of a table: its size, by what its difference is divided, and the two labels.
+    Entry(u8, u8, AsmName, AsmName),
     /// A word, and what fills its operand.
     Word(u32, Option<AsmExpr>),
 }

@@ -22,7 +22,7 @@ use Rattle.sym_expr.specs.Tables.{Tables}
 abbrev pub new_value : Module → Tables → PatchTable → Aux → Value → Value
 new_value m t p a x = function_value m (program m t p) p a (with_places (moved_place m t p) x)
 
--- the bytes of a table of a type that is parsed, none where the type isn't
+-- the bytes of a table with its Places moved where its type is parsed, as they were where it isn't
 abbrev pub value_bytes : Module → Tables → PatchTable → Aux → Shape → List ℕ
 value_bytes m t p a shape = option_map_or (λ x. spelling shape (new_value m t p a x)) (table_value a) a.bytes
 

@@ -1,0 +1,4 @@
+pub mod Faults
+pub mod Modules
+pub mod Outcomes
+pub mod Places
