@@ -10,13 +10,13 @@ use Rattle.gt_front.specs.declared.answer.Answer.TheVariants.{Done, Usage, ReadF
 use Rattle.gt_front.specs.declared.answer.Answer.TheVariants.{Patch as PatchAnswer, Rewrite as RewriteAnswer, Layout as LayoutAnswer, Link as LinkAnswer}
 use Rattle.command_words.specs.declared.role.Role.{Role}
 use Rattle.gt_front.specs.declared.inputs.Unread.{Unread}
-use Rattle.gt_front.specs.declared.verdict.Finished.{Finished}
-use Rattle.gt_front.specs.declared.verdict.Refusal.{Refusal}
-use Rattle.gt_front.specs.declared.verdict.Refusal.TheVariants as refusals
+use Rattle.jobs.specs.declared.verdict.Finished.{Finished}
+use Rattle.jobs.specs.declared.verdict.Refusal.{Refusal}
+use Rattle.jobs.specs.declared.verdict.Refusal.TheVariants as refusals
 use Rattle.gt_front.specs.Answer.{answer_of, unread_answer}
 use Rattle.gt_front.specs.Causes.{ReadFaultCause, TooLargeCause, WriteFaultCause, IsOwn, IsComplete, IsStopped, Kept, Settles, Wrote, WrotePart, verdict_answer}
-use Rattle.gt_front.specs.Inputs.{InputFile, AllReadable, inputs_of}
-use Rattle.gt_front.specs.Outcome.{Outcomes, Outcome, Pass, Verdict, Promised, out_of}
+use Rattle.jobs.specs.Inputs.{InputFile, AllReadable, inputs_of}
+use Rattle.jobs.specs.Outcome.{Outcomes, Outcome, Pass, Verdict, Promised, out_of}
 use Rattle.command_words.specs.Picked.{Picked}
 use Rattle.gt_front.specs.Reads.{Counts, IsUnread}
 use Rattle.gt_front.specs.Served.{Around, Served}

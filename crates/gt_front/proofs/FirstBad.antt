@@ -2,7 +2,7 @@
 use Rattle.std.proofs.Common.{◌≡◌, List, [], ◌∷◌, ◌++◌, ℕ, ◌<◌, ◌≤◌, ◌^◌, length, None, subst, arith}
 use Rattle.std.specs.List.{AllByRecursion}
 use Rattle.gr_base.specs.Desk.{Files}
-use Rattle.gt_front.specs.Inputs.{IsReadable, IsTooLarge}
+use Rattle.jobs.specs.Inputs.{IsReadable, IsTooLarge}
 
 module _ {X : Type 0} (P : X → Type 0) where
   -- where P fails first, it fails once

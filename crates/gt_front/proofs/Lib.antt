@@ -1,12 +1,6 @@
-pub mod Chains
-pub mod Outcomes
 pub mod Telling
 pub mod Reading
 pub mod FirstBad
 pub mod Unreads
 pub mod Endings
 pub mod Serving
-pub mod Binding
-pub mod LineWords
-pub mod LayoutTexts
-pub mod Programs

@@ -14,11 +14,12 @@ use Rattle.gr_base.specs.declared.whole.ReadEnd.TheVariants as reads
 use Rattle.command_words.specs.declared.role.Role.{Role}
 use Rattle.command_words.specs.declared.role.Role.TheVariants.{In, Patch, Layout, Input}
 use Rattle.command_words.specs.declared.role.TheConstants.{ROLES}
-use Rattle.gt_front.specs.declared.inputs.Contents as declared
+use Rattle.jobs.specs.declared.contents.Contents as declared
 use Rattle.gt_front.specs.declared.inputs.Unread.{Unread}
-use Rattle.gt_front.specs.Inputs.{InputFile, IsReadable, IsTooLarge, AllReadable, input_as, files_as, contents_of}
+use Rattle.jobs.specs.Inputs.{InputFile, IsReadable, IsTooLarge, AllReadable, input_as, files_as, contents_of}
 use Rattle.command_words.specs.Picked.{Picked}
-use Rattle.gt_front.specs.Reads.{Counts, Refuses, IsUnread, IsUnreadAs, HoldsAmong, HoldsAll, Puts, contents_view, same_role, among}
+use Rattle.gt_front.specs.Reads.{Counts, Refuses, IsUnread, IsUnreadAs, HoldsAmong, HoldsAll, among}
+use Rattle.jobs.specs.Contents.{Puts, contents_view, same_role}
 use Rattle.gt_front.proofs.Telling.{told_map2, told_back}
 
 -- why a whole read ended, from what it says

@@ -6,15 +6,16 @@ use Rattle.gr_base.specs.declared.whole.WriteFault as faults
 use Rattle.gt_front.specs.declared.answer.Answer.{Answer}
 use Rattle.gt_front.specs.declared.answer.Answer.TheVariants.{Done, Usage, WriteFault, Memory}
 use Rattle.command_words.specs.declared.role.TheConstants.{ROLES}
-use Rattle.gt_front.specs.declared.inputs.Contents as declared
-use Rattle.gt_front.specs.declared.verdict.Finished.{Finished}
-use Rattle.gt_front.specs.declared.verdict.Refusal.{Refusal}
+use Rattle.jobs.specs.declared.contents.Contents as declared
+use Rattle.jobs.specs.declared.verdict.Finished.{Finished}
+use Rattle.jobs.specs.declared.verdict.Refusal.{Refusal}
 use Rattle.gt_front.specs.Answer.{answer_of}
 use Rattle.gt_front.specs.Causes.{Kept, Wrote, WrotePart, WritesNothing}
-use Rattle.gt_front.specs.Inputs.{InputFile, Contents, AllHeld, AllReadable, files_as}
-use Rattle.gt_front.specs.Outcome.{Promised, Promises, Outcome, Outcomes, Pass, Verdict, makes}
+use Rattle.jobs.specs.Inputs.{InputFile, Contents, AllHeld, AllReadable, files_as}
+use Rattle.jobs.specs.Outcome.{Promised, Promises, Outcome, Outcomes, Pass, Verdict, makes}
 use Rattle.command_words.specs.Picked.{Picked, picked}
-use Rattle.gt_front.specs.Reads.{HoldsAll, Writes, contents_view}
+use Rattle.gt_front.specs.Reads.{HoldsAll, Writes}
+use Rattle.jobs.specs.Contents.{contents_view}
 use Rattle.gt_front.specs.Served.{Around, Served}
 use Rattle.gt_front.proofs.Endings.{refused, done, write_refused, write_short}
 use Rattle.gt_front.proofs.Reading.{rose_later}

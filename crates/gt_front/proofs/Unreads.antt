@@ -10,7 +10,7 @@ use Rattle.gt_front.specs.declared.answer.Answer.TheVariants.{ReadFault, TooLarg
 use Rattle.command_words.specs.declared.role.Role.{Role}
 use Rattle.gt_front.specs.Answer.{unread_answer}
 use Rattle.gt_front.specs.Causes.{ReadFaultCause, TooLargeCause}
-use Rattle.gt_front.specs.Inputs.{InputFile, IsReadable, IsTooLarge, AllReadable, Reaches, Names}
+use Rattle.jobs.specs.Inputs.{InputFile, IsReadable, IsTooLarge, AllReadable, Reaches, Names}
 use Rattle.gt_front.specs.Reads.{Counts, Refuses}
 use Rattle.gt_front.proofs.FirstBad.{first_one, all_at, missing_unreadable, large_unreadable, missing_not_large}
 use Rattle.gt_front.proofs.Telling.{told_map, told_map2}

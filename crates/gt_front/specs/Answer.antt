@@ -8,8 +8,8 @@ use Rattle.gt_front.specs.declared.answer.Answer.{Answer}
 use Rattle.command_words.specs.declared.role.Role.{Role}
 use Rattle.gt_front.specs.declared.answer.Answer.TheVariants.{Done, Usage, ReadFault, WriteFault, Memory, TooLarge, Format, Check, Image}
 use Rattle.gt_front.specs.declared.answer.Answer.TheVariants.{Patch as PatchAnswer, Rewrite as RewriteAnswer, Layout as LayoutAnswer, Link as LinkAnswer}
-use Rattle.gt_front.specs.declared.verdict.Refusal.{Refusal}
-use Rattle.gt_front.specs.declared.verdict.Refusal.TheVariants as refusals
+use Rattle.jobs.specs.declared.verdict.Refusal.{Refusal}
+use Rattle.jobs.specs.declared.verdict.Refusal.TheVariants as refusals
 
 -- the exit status of an answer
 abbrev pub status_of : Answer → ℕ

@@ -4,11 +4,11 @@ use Rattle.gr_base.specs.Desk.{Files, Told, SameFiles, Leaves, LeavesPart, Rose,
 use Rattle.command_words.specs.declared.role.Role.{Role}
 use Rattle.gt_front.specs.declared.answer.Answer.{Answer}
 use Rattle.gt_front.specs.declared.answer.Answer.TheVariants.{Done, ReadFault, WriteFault, Memory, TooLarge}
-use Rattle.gt_front.specs.declared.verdict.Finished.{Finished}
-use Rattle.gt_front.specs.declared.verdict.Refusal.{Refusal}
+use Rattle.jobs.specs.declared.verdict.Finished.{Finished}
+use Rattle.jobs.specs.declared.verdict.Refusal.{Refusal}
 use Rattle.gt_front.specs.Answer.{answer_of}
-use Rattle.gt_front.specs.Inputs.{InputFile, Names, Reaches, IsTooLarge, AllReadable}
-use Rattle.gt_front.specs.Outcome.{Outcomes, Verdict}
+use Rattle.jobs.specs.Inputs.{InputFile, Names, Reaches, IsTooLarge, AllReadable}
+use Rattle.jobs.specs.Outcome.{Outcomes, Verdict}
 
 -- a refused read: the count of faults rose, and every input before the one of this role could be read;
 -- on a steady desk exactly where that input isn't held

@@ -1,17 +1,5 @@
 pub mod Answer
 pub mod Note
-pub mod Inputs
-pub mod Stages
-pub mod Recode
-pub mod Run
-pub mod Modules
-pub mod Programs
-pub mod Rewriting
-pub mod Linking
-pub mod Simulated
-pub mod Sim
-pub mod Demo
-pub mod Outcome
 pub mod Causes
 pub mod Reads
 pub mod Served

@@ -1,5 +1,5 @@
 -- What a job learns from the reads of its inputs and from its write; the proofs alone need it.
-use Rattle.std.specs.Prelude.{◌≡◌, ℕ, ◌+◌, ◌^◌, Bool, true, false, cond, IsTrue, List, ◌∷◌, ◌++◌, Option, Some, None, IsSome, Result, Ok, Err}
+use Rattle.std.specs.Prelude.{◌≡◌, ℕ, ◌+◌, ◌^◌, Bool, cond, IsTrue, List, ◌∷◌, ◌++◌, Option, Some, None, IsSome, Result, Ok, Err}
 use Rattle.std.specs.List.{list_any}
 use Rattle.gr_base.specs.Desk.{Files, Told, ToldBoth, Rose, Took}
 use Rattle.gr_base.specs.declared.end.End.{End}
@@ -8,28 +8,13 @@ use Rattle.gr_base.specs.declared.whole.ReadEnd.{ReadEnd}
 use Rattle.gr_base.specs.declared.whole.ReadEnd.TheVariants as reads
 use Rattle.gr_base.specs.declared.whole.WriteFault.{WriteFault}
 use Rattle.command_words.specs.declared.role.Role.{Role}
-use Rattle.command_words.specs.declared.role.Role.TheVariants.{In, Patch, Layout, Input}
-use Rattle.gt_front.specs.declared.inputs.Contents as declared
+use Rattle.jobs.specs.declared.contents.Contents as declared
 use Rattle.gt_front.specs.declared.inputs.Unread.{Unread}
-use Rattle.gt_front.specs.declared.verdict.Finished.{Finished}
+use Rattle.jobs.specs.declared.verdict.Finished.{Finished}
 use Rattle.gt_front.specs.Causes.{Wrote, WrotePart}
-use Rattle.gt_front.specs.Inputs.{InputFile, Contents, contents_of, AllReadable, IsTooLarge}
+use Rattle.jobs.specs.Contents.{contents_view, same_role}
+use Rattle.jobs.specs.Inputs.{InputFile, contents_of, AllReadable, IsTooLarge}
 use Rattle.command_words.specs.Picked.{Picked}
-
--- the contents that the program's own value has
-abbrev pub contents_view : declared.Contents → Contents
-contents_view c In = c.main
-contents_view c Patch = c.patch
-contents_view c Layout = c.layout
-contents_view c Input = c.input
-
--- are two roles one
-abbrev pub same_role : Role → Role → Bool
-same_role In In = true
-same_role Patch Patch = true
-same_role Layout Layout = true
-same_role Input Input = true
-same_role _ _ = false
 
 -- is a role among these
 abbrev pub among : List Role → Role → Bool
@@ -42,10 +27,6 @@ HoldsAmong asked roles c held = (role : Role) → contents_view c role ≡ cond 
 -- there is what the files hold
 abbrev pub HoldsAll : Picked → declared.Contents → Files → Type 0
 HoldsAll asked c held = (role : Role) → contents_view c role ≡ contents_of asked held role
-
--- the contents of one role more
-abbrev pub Puts : Role → Option (List ℕ) → declared.Contents → declared.Contents → Type 0
-Puts role found old new = (other : Role) → contents_view new other ≡ cond (same_role role other) found (contents_view old other)
 
 -- the counts of a desk around a call
 pub record Counts : Type 0 where

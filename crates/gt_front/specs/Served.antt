@@ -4,8 +4,8 @@ use Rattle.gr_base.specs.Desk.{Files, Told, ToldBoth, Rose}
 use Rattle.gt_front.specs.declared.answer.Answer.{Answer}
 use Rattle.gt_front.specs.declared.answer.Answer.TheVariants.{Done, Usage}
 use Rattle.gt_front.specs.Causes.{ReadFaultCause, TooLargeCause, WriteFaultCause, IsOwn, IsComplete, Kept, WritesNothing}
-use Rattle.gt_front.specs.Inputs.{inputs_of}
-use Rattle.gt_front.specs.Outcome.{Pass, Outcome, Promised, out_of}
+use Rattle.jobs.specs.Inputs.{inputs_of}
+use Rattle.jobs.specs.Outcome.{Pass, Outcome, Promised, out_of}
 use Rattle.command_words.specs.Picked.{Picked}
 
 -- a desk around a call: its files, whether it is steady, and its counts

@@ -2,11 +2,11 @@ ghost use Rattle.std.specs.Prelude.{◌≡◌};
 ghost use Rattle.gt_front.specs.Answer.{status_of, answer_of, unread_answer};
 
 use crate::inputs::Unread;
-use crate::verdict::Refusal;
 use bare_image::ImageFault;
 use command_words::Role;
 use gr_base::{End, ReadEnd, Text};
 use gt_read::FormatFault;
+use jobs::Refusal;
 use layout_plan::LayoutFault;
 use node_arena::CheckFault;
 use patch_lines::PatchFault;

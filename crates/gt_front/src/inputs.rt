@@ -1,75 +1,20 @@
-ghost use Rattle.std.specs.Prelude.{◌≡◌, ◌≤◌, ℕ, List, Some, None, IfOk, IfErr, OnOk};
+ghost use Rattle.std.specs.Prelude.{◌≡◌, ◌≤◌, IfOk, IfErr, OnOk};
 ghost use Rattle.gr_base.specs.Desk.{Told, ToldBoth, SameFiles};
 ghost use Rattle.command_words.specs.declared.role.TheConstants.{ROLES};
-ghost use Rattle.gt_front.specs.Inputs.{input_as, files_as, contents_of, AllReadable, bytes_in};
+ghost use Rattle.jobs.specs.Inputs.{input_as, files_as, contents_of, AllReadable};
 ghost use Rattle.command_words.specs.Picked.{picked_view};
-ghost use Rattle.gt_front.specs.Reads.{contents_view, HoldsAll, Puts, IsUnread, IsUnreadAs};
+ghost use Rattle.gt_front.specs.Reads.{HoldsAll, IsUnread, IsUnreadAs};
 
 use command_words::{Picked, ROLES, Role};
 use gr_base::{Bytes, Desk, End, ReadEnd, read_whole};
+use jobs::Contents;
 use std::alloc::Global;
-
-/// The bytes of the inputs, each read whole.
-#[derive(Debug, Drop)]
-pub struct Contents {
-    /// That of the role `In`.
-    main: Option<Bytes>,
-    patch: Option<Bytes>,
-    layout: Option<Bytes>,
-    input: Option<Bytes>,
-}
 
 /// Which input wasn't read, and why.
 #[derive(Debug, Drop)]
 pub struct Unread {
     pub role: Role,
     pub end: End<ReadEnd>,
-}
-
-impl Contents {
-    fn new() -> Contents
-        ensures { (role : _) → contents_view result role ≡ None }
-    {
-        Contents {
-            main: None,
-            patch: None,
-            layout: None,
-            input: None,
-        }
-    }
-
-    fn put(&mut self, role: Role, found: Option<Bytes>)
-        ensures { Puts role found self.old self.new }
-    {
-        match role {
-            Role::In => self.main = found,
-            Role::Patch => self.patch = found,
-            Role::Layout => self.layout = found,
-            Role::Input => self.input = found,
-        }
-    }
-
-    /// The bytes of the input of a role, if the words name one.
-    pub fn of(&self, role: Role) -> &Option<Bytes>
-        ensures { result.now ≡ contents_view self.now role }
-    {
-        match role {
-            Role::In => &self.main,
-            Role::Patch => &self.patch,
-            Role::Layout => &self.layout,
-            Role::Input => &self.input,
-        }
-    }
-
-    /// The bytes of the input of a role; one that no word names is empty.
-    pub fn bytes(&self, role: Role) -> &[u8]
-        ensures { result.now ≡ bytes_in (contents_view self.now) role }
-    {
-        match self.of(role) {
-            Some(bytes) => bytes.as_slice(),
-            None => &[],
-        }
-    }
 }
 
 /// The bytes of the input of a role, if the words name one.

@@ -1,26 +1,11 @@
-//! The jobs of the program: its command words, its answers, and the one call that does all that the
-//! program does.
+//! The one call that does all that the program does: its answers, and what files hold afterwards.
 #![tactic(auto)]
 
 mod answer;
-mod check;
-mod demo;
-mod formed;
 mod inputs;
-pub mod laws;
-mod layout;
-mod link;
-mod modules;
 mod note;
 mod output;
-mod program;
-mod recode;
-mod rewriting;
-mod run;
 mod serve;
-mod sim;
-mod stages;
-mod verdict;
 
 pub use answer::Answer;
 pub use command_words::Role;

@@ -1,8 +1,8 @@
 ghost use Rattle.std.specs.Option.{option_map};
 ghost use Rattle.gt_front.specs.Reads.{Writes};
 
-use crate::verdict::Finished;
 use gr_base::{Desk, End, Text, WriteFault, write_whole};
+use jobs::Finished;
 
 /// Writes what a job has made under the name of its output, if there are both, and gives its text.
 pub fn write_output<D: Desk>(

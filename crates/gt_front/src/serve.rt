@@ -1,50 +1,22 @@
-ghost use Rattle.std.specs.Prelude.{◌≡◌, ◌⊎◌, ◌↔◌, ℕ, List, [], Some, None, OnOk};
+ghost use Rattle.std.specs.Prelude.{◌≡◌, ◌⊎◌, ◌↔◌, ℕ, List, [], Some, None};
 ghost use Rattle.gr_base.specs.Desk.{Told, ToldBoth, Rose};
 ghost use Rattle.gt_front.specs.declared.answer.Answer.TheVariants as answers;
 ghost use Rattle.command_words.specs.Words.{Usage, WordsOk};
 ghost use Rattle.command_words.specs.Picked.{picked, picked_view, InBounds};
-ghost use Rattle.gt_front.specs.Inputs.{inputs_of};
-ghost use Rattle.gt_front.specs.Outcome.{Outcome, Promised, Promises, makes, out_of};
+ghost use Rattle.jobs.specs.Inputs.{inputs_of};
+ghost use Rattle.jobs.specs.Outcome.{Outcome, Promised, out_of};
 ghost use Rattle.gt_front.specs.Causes.{ReadFaultCause, TooLargeCause, WriteFaultCause, IsOwn, IsComplete, Kept, WritesNothing};
-ghost use Rattle.gt_front.specs.Reads.{contents_view};
 ghost use Rattle.gt_front.specs.Served.{Served};
-ghost use Rattle.gt_front.specs.Stages.{Answers};
 
 use crate::answer::Answer;
-use crate::check::check;
-use crate::demo::demo;
-use crate::inputs::{Contents, read_inputs};
-use crate::laws::one_outcome;
-use crate::layout::layout;
-use crate::link::link;
+use crate::inputs::read_inputs;
 use crate::output::write_output;
-use crate::recode::recode;
-use crate::rewriting::rewrite;
-use crate::run::run;
-use crate::sim::sim;
-use crate::verdict::{Finished, Refusal};
 use command_words::laws::words_or_usage;
-use command_words::{Job, Picked, parse_words};
+use command_words::{Picked, parse_words};
 use gr_base::{Desk, End, Seq, Text};
+use jobs::laws::one_outcome;
+use jobs::make;
 use std::alloc::Global;
-
-/// Does a job with the contents of its inputs.
-fn make(alloc: Global, asked: &Picked<'_>, contents: &Contents) -> Result<Finished, End<Refusal>>
-    requires { InBounds asked.now.settings }
-    ensures stage { Answers (makes (picked_view asked.now) [] (contents_view contents.now)) result }
-    ensures promises { OnOk result (Promises (picked_view asked.now) (contents_view contents.now)) }
-{
-    match asked.job {
-        Job::Recode => recode(alloc, contents),
-        Job::Check => check(alloc, asked, contents),
-        Job::Rewrite => rewrite(alloc, asked, contents),
-        Job::Layout => layout(alloc, asked, contents),
-        Job::Link => link(alloc, asked, contents),
-        Job::Run => run(alloc, asked.settings, contents),
-        Job::Sim => sim(alloc, asked, contents),
-        Job::Demo => demo(alloc, asked.settings),
-    }
-}
 
 /// Reads what the words name, does the job, and writes what it has made.
 fn serve_picked<D: Desk>(alloc: Global, asked: &Picked<'_>, desk: &mut D) -> Answer

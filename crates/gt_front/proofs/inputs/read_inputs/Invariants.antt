@@ -1,7 +1,7 @@
 use Rattle.std.proofs.Common.{◌≡◌, ◌≤◌, take}
 use Rattle.gr_base.specs.Desk.{Told, ToldBoth, SameFiles}
 use Rattle.command_words.specs.declared.role.TheConstants.{ROLES}
-use Rattle.gt_front.specs.Inputs.{AllReadable, files_as}
+use Rattle.jobs.specs.Inputs.{AllReadable, files_as}
 use Rattle.command_words.specs.Picked.{picked_view}
 use Rattle.gt_front.specs.Reads.{HoldsAmong}
 use Rattle.gt_front.proofs.inputs.read_inputs.Given as goal

@@ -1,7 +1,7 @@
 use Rattle.std.proofs.Common.{ℕ, List, [], subst, ap, ◌≡◌}
 use Rattle.gt_front.specs.declared.answer.Answer.TheVariants as answers
 use Rattle.command_words.specs.Picked.{picked, picked_view}
-use Rattle.gt_front.specs.Outcome.{Outcome, out_of}
+use Rattle.jobs.specs.Outcome.{Outcome, out_of}
 use Rattle.command_words.specs.Words.{WordsOk, Usage}
 use Rattle.gt_front.proofs.Serving.{served_words, usage_kept, usage_nothing}
 use Rattle.gt_front.proofs.serve.serve_words.Goals as goal

@@ -1,0 +1,6 @@
+pub mod Chains
+pub mod Outcomes
+pub mod Binding
+pub mod LineWords
+pub mod LayoutTexts
+pub mod Programs

@@ -1,0 +1,13 @@
+pub mod Inputs
+pub mod Contents
+pub mod Stages
+pub mod Recode
+pub mod Run
+pub mod Modules
+pub mod Programs
+pub mod Rewriting
+pub mod Linking
+pub mod Simulated
+pub mod Sim
+pub mod Demo
+pub mod Outcome
