@@ -1,12 +1,11 @@
 -- The addresses of blocks under a layout, by the spots of the blocks.
-use Rattle.std.proofs.Common.{◌≡◌, ◌≢◌, ℕ, zero, suc, ◌+◌, ◌-◌, ◌*◌, ◌%◌, ◌≤◌, Bool, true, false, List, [], ◌∷◌, ◌++◌, length, map, replicate, Option, Some, None, refl, sym, ap, ◌∙◌, subst, arith}
-use Rattle.std.specs.Prelude.{AllPairs, find, IfSome, ◌==◌, if◌then◌else◌}
+use Rattle.std.proofs.Common.{◌≡◌, ◌≢◌, ℕ, ◌+◌, ◌-◌, ◌*◌, Bool, true, false, List, [], ◌∷◌, ◌++◌, length, map, replicate, Option, Some, None, refl, sym, ap, ◌∙◌, subst, arith}
+use Rattle.std.specs.Prelude.{AllPairs, find, ◌==◌, if◌then◌else◌}
 use Rattle.std.specs.List.{AllByRecursion as Every, IsDistinct, flat_map}
 use Rattle.std.specs.Option.{option_map}
 use Rattle.std.specs.Str.{bytes_eq}
 use Rattle.std.proofs.lemmas.Bool.{eqb-true, false_from_ne_true, both_ways}
-use Rattle.std.proofs.lemmas.List.{append_assoc, length-append, length-map, length-replicate, map-append}
-use Rattle.std.proofs.lemmas.List.Concat.{flat_map-append}
+use Rattle.std.proofs.lemmas.List.{length-append, length-map, length-replicate, map-append}
 use Rattle.std.proofs.lemmas.Map.Made.{IsDistinct-from_AllPairs}
 use Rattle.std.proofs.lemmas.Slice.Eq.{bytes_eq-Decides}
 use Rattle.block_parts.specs.declared.parts.Part.{Part}
@@ -14,11 +13,10 @@ use Rattle.block_parts.specs.declared.words.PatchedWord.{PatchedWord}
 use Rattle.block_parts.specs.Parts.{cut_words, parts, parts_from}
 use Rattle.block_parts.specs.Words.{patched_words}
 use Rattle.gt_model.specs.declared.modules.Module.{Module}
-use Rattle.repaired_programs.specs.Pieces.{bare_piece, bare_program, bare_stretch, bare_word, gap_of, new_pieces, new_program, new_stretch, part_piece, plain_word}
+use Rattle.repaired_programs.specs.Pieces.{bare_piece, bare_program, bare_stretch, bare_word, new_pieces, new_program, new_stretch, part_piece, plain_word}
 use Rattle.repaired_programs.specs.Spots.{new_spots, old_spots, part_spot, piece_parts, piece_spots}
 use Rattle.rewrite.specs.Identifiers.{part_id}
 use Rattle.sym_expr.specs.declared.layout.Layout.{Layout}
-use Rattle.sym_expr.specs.declared.program.CodeBlock.{CodeBlock}
 use Rattle.sym_expr.specs.declared.program.DataBlock.{DataBlock}
 use Rattle.sym_expr.specs.declared.program.Piece.{Piece}
 use Rattle.sym_expr.specs.declared.program.Piece.TheVariants.{Code as CodePiece, Data as DataPiece, Gap}
@@ -27,7 +25,7 @@ use Rattle.sym_expr.specs.declared.program.Stretch.{Stretch}
 use Rattle.sym_expr.specs.declared.program.Word.{Word}
 use Rattle.sym_expr.specs.Images.{addressed, block_address, is_block}
 use Rattle.sym_expr.specs.Layouts.{address_of, least_from}
-use Rattle.sym_expr.specs.Placing.{Placed, new_size, placed, placed_from, step_of}
+use Rattle.sym_expr.specs.Placing.{Placed, placed, placed_from}
 use Rattle.sym_expr.specs.Points.{data_size, object_alignment}
 use Rattle.sym_expr.specs.WellMade.{block_id, block_ids}
 use Rattle.repaired_programs.proofs.Becomes.{count, cut_count}

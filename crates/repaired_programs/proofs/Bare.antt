@@ -1,9 +1,9 @@
 -- The pieces of a rewritten interval, but for what operands and data name.
-use Rattle.std.proofs.Common.{◌≡◌, ℕ, zero, suc, ◌+◌, ◌-◌, ◌*◌, ◌/◌, ◌%◌, ◌<◌, ◌≤◌, Bool, true, false, List, [], ◌∷◌, ◌++◌, length, map, replicate, Option, refl, sym, ap, ◌∙◌, subst, arith}
+use Rattle.std.proofs.Common.{◌≡◌, ℕ, ◌+◌, ◌-◌, ◌*◌, ◌/◌, Bool, true, false, List, [], ◌∷◌, ◌++◌, length, map, replicate, Option, refl, sym, ap, ◌∙◌, subst, arith}
 use Rattle.std.specs.Prelude.{◌==◌, if◌then◌else◌}
 use Rattle.std.specs.List.{AllByRecursion as Every, flat_map}
 use Rattle.std.proofs.lemmas.Bool.{both_ways, eqb-true}
-use Rattle.std.proofs.lemmas.List.{append_assoc, append-nil, length-append, length-replicate, map-append}
+use Rattle.std.proofs.lemmas.List.{append_assoc, append-nil, length-append, length-replicate}
 use Rattle.block_parts.specs.declared.parts.Part.{Part}
 use Rattle.block_parts.specs.declared.words.PatchedWord.{PatchedWord}
 use Rattle.block_parts.specs.Parts.{cut_words, is_cut, parts_from, put_first}
@@ -16,7 +16,6 @@ use Rattle.gt_model.specs.declared.modules.Module.{Module}
 use Rattle.repaired_programs.specs.Pieces.{bare_piece, bare_word, gap_of, new_pieces, part_piece, piece_behind, plain_word}
 use Rattle.rewrite.specs.Blocks.{part_block}
 use Rattle.rewrite.specs.Contents.{bytes_from, piece_bytes}
-use Rattle.rewrite.specs.Identifiers.{part_id}
 use Rattle.sym_expr.specs.declared.patches.PatchTable.{PatchTable}
 use Rattle.sym_expr.specs.declared.program.CodeBlock.{CodeBlock}
 use Rattle.sym_expr.specs.declared.program.Piece.{Piece}

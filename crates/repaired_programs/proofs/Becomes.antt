@@ -1,9 +1,8 @@
 -- What each block of an interval becomes at its new place: one block or several, inside the room that its piece has there.
-use Rattle.std.proofs.Common.{◌≡◌, ℕ, zero, suc, ◌+◌, ◌-◌, ◌*◌, ◌/◌, ◌%◌, ◌≤◌, ◌<◌, Bool, true, false, not, List, [], ◌∷◌, ◌++◌, length, map, refl, sym, ap, ◌∙◌, subst, inl, inr, arith}
-use Rattle.std.specs.Prelude.{nat_lt, ◌==◌, ◌&&◌, ◌||◌, if◌then◌else◌}
-use Rattle.std.specs.List.{AllByRecursion as Every, flat_map}
+use Rattle.std.proofs.Common.{◌≡◌, ℕ, zero, suc, ◌+◌, ◌-◌, ◌*◌, ◌/◌, ◌%◌, ◌≤◌, ◌<◌, Bool, true, false, not, List, [], ◌∷◌, length, map, refl, sym, ap, ◌∙◌, inl, inr, arith}
+use Rattle.std.specs.Prelude.{◌==◌, ◌&&◌, ◌||◌, if◌then◌else◌}
+use Rattle.std.specs.List.{AllByRecursion as Every}
 use Rattle.std.proofs.lemmas.Bool.{cases_lt, le-ltb, eq-eqb, eqb-true, and_parts, not-false, both_ways}
-use Rattle.block_parts.specs.declared.parts.Part.{Part}
 use Rattle.block_parts.specs.declared.words.PatchedWord.{PatchedWord}
 use Rattle.block_parts.specs.Parts.{cut_words, is_cut, parts, parts_from, put_first}
 use Rattle.block_parts.specs.Words.{patched_words}
@@ -19,7 +18,7 @@ use Rattle.sym_expr.specs.declared.patches.PatchTable.{PatchTable}
 use Rattle.sym_expr.specs.declared.program.Piece.{Piece}
 use Rattle.sym_expr.specs.declared.program.Stretch.{Stretch}
 use Rattle.sym_expr.specs.Linkable.{is_crooked}
-use Rattle.sym_expr.specs.Modules.{bytes_at, end_of, goes_before, id_of, id_of_body, is_code, is_empty, size_of}
+use Rattle.sym_expr.specs.Modules.{end_of, goes_before, id_of, id_of_body, is_code, is_empty, size_of}
 use Rattle.sym_expr.specs.Placing.{new_size}
 use Rattle.sym_expr.specs.Program.{code_block, own_words, piece}
 use Rattle.sym_expr.specs.Tables.{Tables}

@@ -1,5 +1,5 @@
 -- The interval of a function has the pieces of the function.
-use Rattle.std.proofs.Common.{◌≡◌, ℕ, zero, suc, ◌+◌, ◌-◌, ◌*◌, ◌^◌, ◌<◌, ◌≤◌, Bool, true, false, List, [], ◌∷◌, ◌++◌, length, map, refl, sym, ap, ◌∙◌, arith}
+use Rattle.std.proofs.Common.{◌≡◌, ℕ, suc, ◌+◌, ◌-◌, ◌*◌, ◌^◌, ◌<◌, Bool, true, false, List, [], ◌∷◌, ◌++◌, length, map, refl, sym, ap, ◌∙◌, arith}
 use Rattle.std.specs.Prelude.{◌==◌, if◌then◌else◌}
 use Rattle.std.specs.List.{AllByRecursion as Every, flat_map}
 use Rattle.std.proofs.lemmas.List.{append_assoc, append-nil, length-map}
@@ -9,7 +9,7 @@ use Rattle.gt_model.specs.declared.intervals.Block.{Block}
 use Rattle.gt_model.specs.declared.intervals.Body.TheVariants as bodies
 use Rattle.gt_model.specs.declared.intervals.Interval.{Interval}
 use Rattle.gt_model.specs.declared.modules.Module.{Module}
-use Rattle.repaired_programs.specs.Pieces.{bare_piece, bare_word, gap_of, new_pieces, plain_word}
+use Rattle.repaired_programs.specs.Pieces.{bare_piece, bare_word, new_pieces, plain_word}
 use Rattle.rewrite.specs.Functions.{blocks_from, function_interval}
 use Rattle.sym_expr.specs.declared.patches.FunLine.{FunLine}
 use Rattle.sym_expr.specs.declared.patches.FunLine.TheVariants as lines
@@ -22,7 +22,7 @@ use Rattle.sym_expr.specs.declared.program.Piece.{Piece}
 use Rattle.sym_expr.specs.declared.program.Piece.TheVariants.{Code as CodePiece, Gap}
 use Rattle.sym_expr.specs.declared.program.Word.{Word}
 use Rattle.sym_expr.specs.Images.{bytes_of}
-use Rattle.sym_expr.specs.Modules.{bytes_at, end_of, in_order}
+use Rattle.sym_expr.specs.Modules.{bytes_at, in_order}
 use Rattle.sym_expr.specs.Patches.{add_word, begins, cut, function_blocks, is_control, no_patches, with_starts}
 use Rattle.sym_expr.specs.Placing.{placed_from}
 use Rattle.sym_expr.specs.Program.{function_pieces, patched_word, pieces}
@@ -70,7 +70,7 @@ cut_bytes : (ws : List (Bool × PatchWord)) → flat_map bytes_brought (cut ws) 
 cut_bytes [] = refl
 cut_bytes ((start, w) ∷ rest) = added_bytes w (begins rest) (cut rest) ∙ ap (λ l. bytes_one w ++ l) (cut_bytes rest)
 
-started : (fresh : Bool) (ls : List FunLine) → map (λ (w : Bool × PatchWord). w.1) (with_starts fresh ls) ≡ flat_map line_words ls
+pub started : (fresh : Bool) (ls : List FunLine) → map (λ (w : Bool × PatchWord). w.1) (with_starts fresh ls) ≡ flat_map line_words ls
 started fresh [] = refl
 started fresh (lines.Label name ∷ rest) = started true rest
 started fresh (lines.Word w ∷ rest) = ap (λ l. w ∷ l) (started (is_control w.word) rest)

@@ -1,5 +1,5 @@
 -- Bytes and words of an interval whose contents are known from an offset on.
-use Rattle.std.proofs.Common.{◌≡◌, ℕ, zero, suc, ◌+◌, ◌-◌, ◌*◌, ◌/◌, ◌%◌, ◌^◌, ◌<◌, ◌≤◌, List, [], ◌∷◌, ◌++◌, length, map, get_or, None, refl, sym, ap, ◌∙◌, subst, arith}
+use Rattle.std.proofs.Common.{◌≡◌, ℕ, ◌+◌, ◌*◌, ◌/◌, ◌%◌, ◌^◌, ◌<◌, List, [], ◌∷◌, ◌++◌, length, map, get_or, None, refl, sym, ap, ◌∙◌, arith}
 use Rattle.std.specs.Int.{w32, from_le_bytes}
 use Rattle.std.specs.List.{AllByRecursion as Every, flat_map}
 use Rattle.std.proofs.lemmas.List.{append_assoc, get_or-append-add, length-append}
@@ -8,7 +8,7 @@ use Rattle.gt_model.specs.declared.intervals.Interval.{Interval}
 use Rattle.gt_model.specs.declared.modules.Module.{Module}
 use Rattle.repaired_programs.specs.Pieces.{bare_word, plain_word}
 use Rattle.sym_expr.specs.Images.{bytes_of}
-use Rattle.sym_expr.specs.Modules.{byte_at, bytes_at, word_of}
+use Rattle.sym_expr.specs.Modules.{byte_at, bytes_at}
 use Rattle.sym_expr.specs.Patches.{no_patches}
 use Rattle.sym_expr.specs.Program.{own_words}
 

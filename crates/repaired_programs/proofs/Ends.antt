@@ -1,6 +1,6 @@
 -- The points that targets name keep their addresses in the program of a repaired module.
-use Rattle.std.proofs.Common.{◌≡◌, ◌≢◌, ℕ, ◌+◌, ◌-◌, ◌*◌, Bool, true, false, List, [], ◌∷◌, ◌++◌, length, map, Option, Some, None, refl, sym, ap, ◌∙◌, subst}
-use Rattle.std.specs.Prelude.{filter, find, IfSome, ◌==◌, if◌then◌else◌}
+use Rattle.std.proofs.Common.{◌≡◌, ℕ, ◌+◌, ◌-◌, ◌*◌, Bool, true, false, List, [], ◌∷◌, ◌++◌, length, map, Option, Some, None, refl, sym, ap, ◌∙◌, subst}
+use Rattle.std.specs.Prelude.{find, IfSome, ◌==◌, if◌then◌else◌}
 use Rattle.std.specs.List.{AllByRecursion as Every, cons_option, IsDistinct, flat_map, filter_map}
 use Rattle.std.specs.Str.{bytes_eq}
 use Rattle.std.proofs.lemmas.List.Concat.{flat_map-append}
@@ -8,7 +8,6 @@ use Rattle.std.proofs.lemmas.Map.Made.{IsDistinct-from_AllPairs}
 use Rattle.std.proofs.lemmas.Option.{none-some}
 use Rattle.std.proofs.lemmas.Slice.Eq.{bytes_eq-Decides}
 use Rattle.block_parts.specs.Parts.{parts}
-use Rattle.block_parts.specs.Words.{patched_words}
 use Rattle.gt_model.specs.declared.intervals.Block.{Block}
 use Rattle.gt_model.specs.declared.intervals.Interval.{Interval}
 use Rattle.gt_model.specs.declared.modules.Module.{Module}
@@ -17,7 +16,6 @@ use Rattle.repaired_programs.specs.Spots.{new_spots, old_spots, part_spot}
 use Rattle.rewrite.specs.Blocks.{part_size}
 use Rattle.rewrite.specs.Identifiers.{last_part, part_id}
 use Rattle.sym_expr.specs.declared.layout.Layout.{Layout}
-use Rattle.sym_expr.specs.declared.patches.Function.{Function}
 use Rattle.sym_expr.specs.declared.point.Point.{Point}
 use Rattle.sym_expr.specs.declared.program.CodeBlock.{CodeBlock}
 use Rattle.sym_expr.specs.declared.program.Piece.{Piece}
@@ -28,7 +26,7 @@ use Rattle.sym_expr.specs.Images.{block_address, point_address}
 use Rattle.sym_expr.specs.Layouts.{address_of, least_from}
 use Rattle.sym_expr.specs.Modules.{bytes_at, end_of, in_order, is_code, loaded_sections}
 use Rattle.sym_expr.specs.Patches.{no_patches}
-use Rattle.sym_expr.specs.Placing.{new_size, placed, placed_from, step_of}
+use Rattle.sym_expr.specs.Placing.{new_size, placed_from, step_of}
 use Rattle.sym_expr.specs.Points.{code_at, code_blocks, code_of, code_size, ins, pieces_of}
 use Rattle.sym_expr.specs.Program.{code_block, data_block, function_stretch, gap, has_entry, piece, pieces, program, section_stretches, stretch}
 use Rattle.sym_expr.specs.Tables.{Tables}
@@ -88,7 +86,7 @@ quiet_program n u =
 
 -- ---- each code block is found by its identifier
 
-codes_of_ids : (P : List ℕ → Type 0) (ps : List Piece) → Every P (flat_map block_id ps) → Every (λ (c : CodeBlock). P c.id) (filter_map code_of ps)
+pub codes_of_ids : (P : List ℕ → Type 0) (ps : List Piece) → Every P (flat_map block_id ps) → Every (λ (c : CodeBlock). P c.id) (filter_map code_of ps)
 codes_of_ids P [] h = tt
 codes_of_ids P (CodePiece b ∷ ps) h = (h.0, codes_of_ids P ps h.1)
 codes_of_ids P (DataPiece b ∷ ps) h = codes_of_ids P ps h.1
@@ -112,7 +110,7 @@ codes_found (CodePiece b ∷ ps) d =
 codes_found (DataPiece b ∷ ps) d = codes_found ps d.1
 codes_found (Gap bytes ∷ ps) d = codes_found ps d
 
-flat_flat : {X Y Z : Type 0} (f : X → List Y) (g : Y → List Z) (xs : List X) → flat_map g (flat_map f xs) ≡ flat_map (λ x. flat_map g (f x)) xs
+pub flat_flat : {X Y Z : Type 0} (f : X → List Y) (g : Y → List Z) (xs : List X) → flat_map g (flat_map f xs) ≡ flat_map (λ x. flat_map g (f x)) xs
 flat_flat f g [] = refl
 flat_flat f g (x ∷ xs) = flat_map-append g (f x) (flat_map f xs) ∙ ap (λ l. flat_map g (f x) ++ l) (flat_flat f g xs)
 

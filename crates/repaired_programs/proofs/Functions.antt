@@ -1,8 +1,8 @@
 -- The interval of a function has the room of the function.
-use Rattle.std.proofs.Common.{◌≡◌, ℕ, zero, suc, ◌+◌, ◌-◌, ◌*◌, ◌/◌, ◌≤◌, Bool, true, false, List, [], ◌∷◌, ◌++◌, length, map, refl, sym, ap, ◌∙◌, arith}
-use Rattle.std.specs.Prelude.{◌==◌, if◌then◌else◌}
+use Rattle.std.proofs.Common.{◌≡◌, ℕ, suc, ◌+◌, ◌-◌, ◌*◌, Bool, true, false, List, [], ◌∷◌, length, map, refl, sym, ap, ◌∙◌, arith}
+use Rattle.std.specs.Prelude.{◌==◌}
 use Rattle.std.specs.List.{flat_map}
-use Rattle.std.proofs.lemmas.List.{length-map, length-append}
+use Rattle.std.proofs.lemmas.List.{length-map}
 use Rattle.gt_model.specs.declared.intervals.Block.{Block}
 use Rattle.gt_model.specs.declared.intervals.Body.TheVariants as bodies
 use Rattle.gt_model.specs.declared.intervals.Interval.{Interval}
@@ -15,8 +15,7 @@ use Rattle.sym_expr.specs.declared.patches.PatchTable.{PatchTable}
 use Rattle.sym_expr.specs.declared.patches.PatchWord.{PatchWord}
 use Rattle.sym_expr.specs.declared.program.CodeBlock.{CodeBlock}
 use Rattle.sym_expr.specs.declared.program.Piece.{Piece}
-use Rattle.sym_expr.specs.declared.program.Piece.TheVariants.{Code as CodePiece}
-use Rattle.sym_expr.specs.Modules.{end_of, in_order}
+use Rattle.sym_expr.specs.Modules.{in_order}
 use Rattle.sym_expr.specs.Patches.{add_word, begins, cut, function_blocks, is_control, no_patches, with_starts}
 use Rattle.sym_expr.specs.Program.{function_pieces, patched_word, pieces}
 use Rattle.sym_expr.specs.TableOk.{function_words, line_words}

@@ -1,7 +1,7 @@
 -- What the checks of a module, and its program, say of each loaded interval.
-use Rattle.std.proofs.Common.{◌≡◌, ℕ, ◌+◌, ◌-◌, ◌≤◌, Bool, true, false, List, [], ◌∷◌, ◌++◌, length, map, Some, refl, sym, ap, ◌∙◌, subst, arith}
-use Rattle.std.specs.Prelude.{filter, IfSome, ◌==◌, if◌then◌else◌}
-use Rattle.std.specs.List.{AllByRecursion as Every, IsDistinct, flat_map, filter_map, list_any, zip}
+use Rattle.std.proofs.Common.{◌≡◌, ℕ, ◌+◌, ◌-◌, Bool, true, false, List, [], ◌∷◌, ◌++◌, length, map, refl, ap, ◌∙◌, subst, arith}
+use Rattle.std.specs.Prelude.{IfSome, ◌==◌, if◌then◌else◌}
+use Rattle.std.specs.List.{AllByRecursion as Every, IsDistinct, flat_map, list_any, zip}
 use Rattle.std.specs.Str.{bytes_eq}
 use Rattle.std.proofs.lemmas.Bool.{ltb-false}
 use Rattle.std.proofs.lemmas.List.Concat.{flat_map-append}
@@ -21,13 +21,13 @@ use Rattle.sym_expr.specs.declared.program.Piece.TheVariants.{Code as CodePiece,
 use Rattle.sym_expr.specs.declared.program.Program.{Program}
 use Rattle.sym_expr.specs.declared.program.Stretch.{Stretch}
 use Rattle.sym_expr.specs.Linkable.{crooked_in, formed, is_crooked, is_overlap, overlaps_among, overlaps_in}
-use Rattle.sym_expr.specs.Modules.{bytes_at, end_of, id_of, in_order, intervals_of, is_code, is_loaded, loaded_intervals, loaded_sections}
+use Rattle.sym_expr.specs.Modules.{bytes_at, end_of, id_of, in_order, is_code, is_loaded, loaded_intervals, loaded_sections}
 use Rattle.sym_expr.specs.Points.{code_of}
 use Rattle.sym_expr.specs.Program.{code_block, data_block, function_stretch, gap, has_entry, piece, pieces, program, section_stretches, stretch}
 use Rattle.sym_expr.specs.Tables.{Tables}
 use Rattle.sym_expr.specs.WellMade.{block_id, IsCode, well_made}
 use Rattle.repaired_programs.proofs.Becomes.{IsFit}
-use Rattle.repaired_programs.proofs.Lists.{every_all, every_back, every_both, every_contained, every_filter, every_flat, every_front, every_kept, every_part, every_unmap, every_weaker, none_of_any, none_of_filter, none_of_flat}
+use Rattle.repaired_programs.proofs.Lists.{every_back, every_both, every_contained, every_filter, every_flat, every_front, every_kept, every_part, every_unmap, every_weaker, none_of_any, none_of_filter, none_of_flat}
 use Rattle.repaired_programs.proofs.Sorted.{each_in_order}
 use Rattle.repaired_programs.proofs.Spots.{Behind}
 use Rattle.repaired_programs.proofs.Stands.{IsKnown}
@@ -99,7 +99,7 @@ all_told g count made =
     (every_kept code_of (IsCode g) (flat_map (λ (s : Stretch). s.pieces) g.stretches) made.codes)))
     (all_distinct g.stretches (IsDistinct-from_AllPairs bytes_eq-Decides (flat_map ids_in g.stretches) made.apart)))
 
-of_intervals : (P : Stretch → Type 0) (m : Module) (t : Tables) (p : PatchTable) → Every P (program m t p).stretches → Every (λ i. P (stretch m t p i)) (loaded_intervals m)
+pub of_intervals : (P : Stretch → Type 0) (m : Module) (t : Tables) (p : PatchTable) → Every P (program m t p).stretches → Every (λ i. P (stretch m t p i)) (loaded_intervals m)
 of_intervals P m t p h =
     every_flat (λ (s : Section). s.intervals) (λ i. P (stretch m t p i)) (loaded_sections m)
     (every_weaker (λ s. Every P (section_stretches m t p s)) (λ (s : Section). Every (λ i. P (stretch m t p i)) s.intervals)
@@ -108,7 +108,7 @@ of_intervals P m t p h =
 
 -- ---- from pieces to blocks
 
-pieces_back : (P : Piece → Type 0) (m : Module) (t : Tables) (p : PatchTable) (i : Interval) (at : ℕ) (bs : List Block) → Every P (pieces m t p i at bs) → Every (λ b. P (piece m t p i b)) bs
+pub pieces_back : (P : Piece → Type 0) (m : Module) (t : Tables) (p : PatchTable) (i : Interval) (at : ℕ) (bs : List Block) → Every P (pieces m t p i at bs) → Every (λ b. P (piece m t p i b)) bs
 pieces_back P m t p i at [] h = tt
 pieces_back P m t p i at (b ∷ bs) h =
     let both = every_back P (gap i at b.offset) (piece m t p i b ∷ pieces m t p i (end_of b) bs) h in

@@ -1,5 +1,5 @@
 -- Facts of each element of lists, and of each pair.
-use Rattle.std.proofs.Common.{◌≡◌, ℕ, Bool, true, false, List, [], ◌∷◌, ◌++◌, map, Option, Some, None, refl, ap, ◌∙◌}
+use Rattle.std.proofs.Common.{◌≡◌, Bool, true, false, List, [], ◌∷◌, ◌++◌, map, Option, Some, None, refl}
 use Rattle.std.specs.Prelude.{filter, IfSome, Contains, if◌then◌else◌}
 use Rattle.std.specs.List.{AllByRecursion as Every, flat_map, filter_map, cons_option, list_any}
 use Rattle.std.proofs.lemmas.Bool.{or_parts}

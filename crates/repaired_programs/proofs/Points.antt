@@ -1,15 +1,14 @@
 -- The points that targets name, at the start of a block and at its end, keep their addresses.
-use Rattle.std.proofs.Common.{◌≡◌, ℕ, zero, suc, ◌+◌, ◌*◌, ◌≤◌, ◌<◌, ◌^◌, ◌%◌, Bool, true, false, List, [], ◌∷◌, ◌++◌, length, map, Option, Some, None, refl, sym, ap, ◌∙◌, subst, inl, inr, arith}
-use Rattle.std.specs.Prelude.{filter, find, IfSome, nat_lt, ◌==◌, if◌then◌else◌, unwrap_or}
-use Rattle.std.specs.List.{AllByRecursion as Every, IsDistinct, flat_map, filter_map}
-use Rattle.std.specs.Option.{option_map, option_map_or}
+use Rattle.std.proofs.Common.{◌≡◌, ℕ, ◌+◌, ◌*◌, ◌≤◌, Bool, true, false, List, [], ◌∷◌, length, map, Option, Some, None, refl, sym, ap, ◌∙◌, subst, inl, inr, arith}
+use Rattle.std.specs.Prelude.{filter, find, nat_lt, ◌==◌, if◌then◌else◌, unwrap_or}
+use Rattle.std.specs.List.{AllByRecursion as Every}
+use Rattle.std.specs.Option.{option_map_or}
 use Rattle.std.specs.Str.{bytes_eq}
 use Rattle.std.proofs.lemmas.Bool.{cases_lt, lt-ltb, le-ltb, eq-eqb, ne_eqb}
 use Rattle.std.proofs.lemmas.List.{length-map}
-use Rattle.std.proofs.lemmas.Slice.Eq.{bytes_eq-Decides}
 use Rattle.block_parts.specs.declared.parts.Part.{Part}
 use Rattle.block_parts.specs.declared.words.PatchedWord.{PatchedWord}
-use Rattle.block_parts.specs.Parts.{cut_words, parts, parts_from}
+use Rattle.block_parts.specs.Parts.{parts, parts_from}
 use Rattle.block_parts.specs.Words.{patched_words}
 use Rattle.gt_model.specs.declared.modules.Module.{Module}
 use Rattle.repaired_programs.specs.Spots.{part_spot}
@@ -30,11 +29,11 @@ use Rattle.repaired_programs.proofs.Walks.{some_part}
 
 -- ---- the start of a block
 
-abbrev one_if : Bool → ℕ
+abbrev pub one_if : Bool → ℕ
 one_if true = 1
 one_if false = 0
 
-counted_first : {X : Type 0} (test : X → Bool) (x : X) (xs : List X) (b : Bool) → test x ≡ b → length (filter test (x ∷ xs)) ≡ one_if b + length (filter test xs)
+pub counted_first : {X : Type 0} (test : X → Bool) (x : X) (xs : List X) (b : Bool) → test x ≡ b → length (filter test (x ∷ xs)) ≡ one_if b + length (filter test xs)
 counted_first test x xs true e = ap (λ c. length (if c then x ∷ filter test xs else filter test xs)) e ∙ omega arith
 counted_first test x xs false e = ap (λ c. length (if c then x ∷ filter test xs else filter test xs)) e ∙ omega arith
 

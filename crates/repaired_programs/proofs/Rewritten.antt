@@ -1,5 +1,5 @@
 -- The program of a repaired module is the program of the module and its patches once more, but for what operands and data name.
-use Rattle.std.proofs.Common.{◌≡◌, ℕ, ◌+◌, Bool, true, false, List, [], ◌∷◌, length, map, Some, None, refl, ap, ◌∙◌}
+use Rattle.std.proofs.Common.{◌≡◌, ◌+◌, Bool, true, false, [], length, map, Some, None, refl, ap, ◌∙◌}
 use Rattle.std.specs.Prelude.{if◌then◌else◌}
 use Rattle.std.specs.List.{AllByRecursion as Every, list_any}
 use Rattle.block_parts.specs.Parts.{parts}
@@ -49,7 +49,7 @@ use Rattle.repaired_programs.proofs.Still.{IsOnePart, still_bare}
 abbrev pub AreNew : Module → Tables → PatchTable → Interval → Type 0
 AreNew m t p i = map bare_piece (stretch (repaired_module m t p) (moved_tables m t p) no_patches (stretched m p i (stretch m t p i))).pieces ≡ new_pieces m [] 0 (placed (stretch m t p i))
 
-interval_new : ((b : CodeBlock) → AreNamed b) → (m : Module) (t : Tables) (p : PatchTable) (i : Interval) → typed_patches p → IsKnown m t p i × HasBytes i → AreNew m t p i
+pub interval_new : ((b : CodeBlock) → AreNamed b) → (m : Module) (t : Tables) (p : PatchTable) (i : Interval) → typed_patches p → IsKnown m t p i × HasBytes i → AreNew m t p i
 interval_new named m t p i typed h =
     let n : Module = repaired_module m t p in
     let u : Tables = moved_tables m t p in

@@ -1,27 +1,25 @@
 -- The program of a repaired module needs the rooms that the program of the module and its patches needs.
-use Rattle.std.proofs.Common.{◌≡◌, ℕ, ◌+◌, Bool, true, false, List, [], ◌∷◌, ◌++◌, length, map, Option, Some, None, refl, sym, ap, ◌∙◌, arith}
-use Rattle.std.specs.Prelude.{filter, if◌then◌else◌}
-use Rattle.std.specs.List.{AllByRecursion as Every, flat_map, list_any}
-use Rattle.std.proofs.lemmas.List.{map-append}
+use Rattle.std.proofs.Common.{◌≡◌, ℕ, ◌+◌, Bool, true, false, List, length, Option, Some, None, refl, ap, ◌∙◌}
+use Rattle.std.specs.Prelude.{if◌then◌else◌}
+use Rattle.std.specs.List.{list_any}
 use Rattle.block_parts.specs.Words.{patched_words}
 use Rattle.edge_repair.specs.Repaired.{repaired_module}
 use Rattle.gt_model.specs.declared.intervals.Interval.{Interval}
 use Rattle.gt_model.specs.declared.ir.Ir.{Ir}
 use Rattle.gt_model.specs.declared.modules.Module.{Module}
-use Rattle.gt_model.specs.declared.modules.Section.{Section}
 use Rattle.rewrite.specs.Functions.{function_interval}
 use Rattle.rewrite.specs.Places.{moved_tables}
-use Rattle.rewrite.specs.Rewritten.{has_words, new_interval, new_intervals, new_section, stretched}
+use Rattle.rewrite.specs.Rewritten.{has_words, new_interval, stretched}
 use Rattle.sym_expr.specs.declared.patches.Function.{Function}
 use Rattle.sym_expr.specs.declared.patches.PatchTable.{PatchTable}
 use Rattle.sym_expr.specs.declared.program.CodeBlock.{CodeBlock}
 use Rattle.sym_expr.specs.declared.program.Program.{Program}
 use Rattle.sym_expr.specs.declared.shape.ShapeSpot.{ShapeSpot}
 use Rattle.sym_expr.specs.Linkable.{formed}
-use Rattle.sym_expr.specs.Modules.{in_order, intervals_of, is_loaded}
+use Rattle.sym_expr.specs.Modules.{in_order}
 use Rattle.sym_expr.specs.Patches.{no_patches}
 use Rattle.sym_expr.specs.Placing.{residue_of, shape_of, spot_of}
-use Rattle.sym_expr.specs.Program.{function_stretch, has_entry, pieces, program, section_stretches, stretch}
+use Rattle.sym_expr.specs.Program.{function_stretch, pieces, program, stretch}
 use Rattle.sym_expr.specs.Tables.{Tables, alignment_entry}
 use Rattle.sym_expr.specs.WellMade.{IsCode, well_made}
 use Rattle.repaired_programs.proofs.Functions.{whole_walk}

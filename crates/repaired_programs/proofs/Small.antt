@@ -1,6 +1,6 @@
 -- The words of a patched block are numbers of 32 bits.
-use Rattle.std.proofs.Common.{◌≡◌, ℕ, zero, suc, ◌+◌, ◌*◌, ◌/◌, ◌^◌, ◌<◌, Bool, true, false, List, [], ◌∷◌, ◌++◌, map, get_or, refl, arith}
-use Rattle.std.specs.Prelude.{filter, ◌==◌, if◌then◌else◌}
+use Rattle.std.proofs.Common.{◌≡◌, ℕ, zero, suc, ◌+◌, ◌*◌, ◌/◌, ◌^◌, ◌<◌, List, [], ◌∷◌, map, get_or, arith}
+use Rattle.std.specs.Prelude.{filter, ◌==◌}
 use Rattle.std.specs.Int.{w32, from_le_bytes}
 use Rattle.std.specs.List.{AllByRecursion as Every, flat_map}
 use Rattle.std.specs.Str.{bytes_eq}
@@ -17,7 +17,7 @@ use Rattle.sym_expr.specs.declared.patches.PatchTable.{PatchTable}
 use Rattle.sym_expr.specs.declared.patches.PatchWord.{PatchWord}
 use Rattle.sym_expr.specs.declared.program.Word.{Word}
 use Rattle.sym_expr.specs.Linkable.{formed}
-use Rattle.sym_expr.specs.Modules.{byte_at, bytes_at, id_of, is_loaded, loaded_intervals, loaded_sections, size_of, word_of}
+use Rattle.sym_expr.specs.Modules.{byte_at, id_of, is_loaded, loaded_intervals, loaded_sections, size_of, word_of}
 use Rattle.sym_expr.specs.Patches.{inserted_at, inserted_in}
 use Rattle.sym_expr.specs.Program.{code_block, own_words, patched_word}
 use Rattle.sym_expr.specs.TableOk.{function_words, typed_patches, typed_word}

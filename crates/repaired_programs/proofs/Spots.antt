@@ -1,5 +1,5 @@
 -- The new places of the blocks of an interval: each is found by its identifier, and they lie one behind the other.
-use Rattle.std.proofs.Common.{◌≡◌, ℕ, zero, suc, ◌+◌, ◌-◌, ◌*◌, ◌/◌, ◌%◌, ◌≤◌, ◌<◌, Bool, true, false, List, [], ◌∷◌, ◌++◌, length, map, Some, refl, sym, ap, ◌∙◌, arith}
+use Rattle.std.proofs.Common.{◌≡◌, ℕ, zero, suc, ◌+◌, ◌-◌, ◌%◌, ◌≤◌, Bool, true, false, List, [], ◌∷◌, ◌++◌, length, map, Some, refl, sym, ap, ◌∙◌, arith}
 use Rattle.std.specs.Prelude.{find, ◌==◌, if◌then◌else◌}
 use Rattle.std.specs.List.{AllByRecursion as Every, IsDistinct}
 use Rattle.std.specs.Option.{option_map_or}
@@ -17,7 +17,7 @@ use Rattle.sym_expr.specs.Images.{is_block}
 use Rattle.sym_expr.specs.Layouts.{least_from}
 use Rattle.sym_expr.specs.Modules.{bytes_at, end_of, id_of, is_code, size_of}
 use Rattle.sym_expr.specs.Placing.{Placed, new_size, placed_from, step_of}
-use Rattle.sym_expr.specs.Program.{code_block, data_block, gap, piece, pieces}
+use Rattle.sym_expr.specs.Program.{code_block, data_block, piece, pieces}
 use Rattle.sym_expr.specs.Tables.{Tables}
 use Rattle.repaired_programs.proofs.Lists.{every_both, every_weaker, Pairs}
 

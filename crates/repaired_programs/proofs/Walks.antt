@@ -1,9 +1,9 @@
 -- The room and the alignment of pieces from an offset on, and what they are once the blocks stand at their new places.
-use Rattle.std.proofs.Common.{◌≡◌, ℕ, zero, suc, ◌+◌, ◌-◌, ◌*◌, ◌/◌, ◌%◌, ◌^◌, ◌≤◌, ◌<◌, Bool, true, false, List, [], ◌∷◌, ◌++◌, length, map, Option, Some, None, refl, sym, ap, ◌∙◌, subst, arith}
+use Rattle.std.proofs.Common.{◌≡◌, ℕ, zero, suc, ◌+◌, ◌-◌, ◌*◌, ◌/◌, ◌%◌, ◌^◌, ◌≤◌, Bool, true, false, List, [], ◌∷◌, ◌++◌, length, map, Option, Some, None, refl, sym, ap, ◌∙◌, subst, arith}
 use Rattle.std.specs.Prelude.{max, ◌==◌, ◌&&◌, if◌then◌else◌}
 use Rattle.std.specs.List.{AllByRecursion as Every, flat_map}
 use Rattle.std.proofs.lemmas.Bool.{and_parts, both_ways, eqb-true, not-false}
-use Rattle.std.proofs.lemmas.List.{append_assoc, length-map}
+use Rattle.std.proofs.lemmas.List.{length-map}
 use Rattle.block_parts.specs.declared.words.PatchedWord.{PatchedWord}
 use Rattle.block_parts.specs.Parts.{cut_words, is_cut, parts_from, put_first}
 use Rattle.block_parts.specs.Words.{patched_words}
@@ -23,8 +23,7 @@ use Rattle.sym_expr.specs.declared.program.Word.{Word}
 use Rattle.sym_expr.specs.Layouts.{least_from}
 use Rattle.sym_expr.specs.Modules.{bytes_at, end_of, id_of, is_code, size_of}
 use Rattle.sym_expr.specs.Patches.{inserted_in, no_patches}
-use Rattle.sym_expr.specs.Placing.{Placed, end_from, greatest, new_size, placed_from, step_of}
-use Rattle.sym_expr.specs.Points.{data_size}
+use Rattle.sym_expr.specs.Placing.{Placed, end_from, greatest, new_size, placed_from}
 use Rattle.sym_expr.specs.Program.{code_block, data_block, gap, patched_word, piece, pieces}
 use Rattle.sym_expr.specs.Tables.{Tables, alignment_entry, common_power, effective}
 use Rattle.repaired_programs.proofs.Becomes.{block_at, body_at, count, cut_count, IsFit, length-own_words}

@@ -14,6 +14,7 @@ use Rattle.gt_model.specs.declared.symbols.Symbol.{Symbol}
 use Rattle.repaired_programs.specs.Pieces.{bare_piece, new_pieces}
 use Rattle.rewrite.specs.Places.{moved_tables}
 use Rattle.rewrite.specs.Rewritten.{stretched}
+use Rattle.rewrite.specs.Offsets.{new_offset}
 use Rattle.sym_expr.specs.declared.layout.Layout.{Layout}
 use Rattle.sym_expr.specs.declared.patches.FunLine.TheVariants as lines
 use Rattle.sym_expr.specs.declared.patches.PatchTable.{PatchTable}
@@ -24,7 +25,7 @@ use Rattle.sym_expr.specs.Images.{image}
 use Rattle.sym_expr.specs.Patches.{no_patches}
 use Rattle.sym_expr.specs.Placing.{placed, shape_of}
 use Rattle.sym_expr.specs.Program.{program, stretch}
-use Rattle.sym_expr.specs.Tables.{Tables}
+use Rattle.sym_expr.specs.Tables.{Tables, expr_size}
 
 abbrev u : ℕ → List ℕ
 u n = replicate 16 n
@@ -113,3 +114,22 @@ layout = record { places = record { interval = u 4; at = 65536 } ∷ []; stack_a
 same_image : image (program (repaired_module called tables uncut) (moved_tables called tables uncut) no_patches) layout ≡ image (program called tables uncut) layout
 unfolding table
 same_image = refl
+
+-- ---- an entry of the tables past the end of its interval stays, and a moved expression may come to stand there: its size is another then
+
+abbrev longer : PatchTable
+longer = record { inserts = record { block = u 11; offset = 8; body = word 0xd503201f ∷ word 0xd503201f ∷ word 0xd503201f ∷ word 0xd503201f ∷ [] } ∷ []; functions = [] }
+
+abbrev stale : Tables
+stale = record { alignment = (u 8, 8) ∷ []; sizes = ((u 4, 40), 8) ∷ ((u 4, 24), 4) ∷ [] }
+
+moved_to : new_offset (stretch called stale longer text) 24 ≡ 40
+unfolding table
+moved_to = refl
+
+now_size : expr_size (moved_tables called stale longer) (u 4) 40 ≡ 8
+unfolding table
+now_size = refl
+
+old_size : expr_size stale (u 4) 24 ≡ 4
+old_size = refl

@@ -1,0 +1,4 @@
+pub mod Labels
+pub mod Reading
+pub mod Slots
+pub mod Words
