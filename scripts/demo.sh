@@ -71,8 +71,12 @@ show() {
     echo
 }
 
-# The jobs are built side by side.
-while IFS='|' read -r words folder; do job "${words%% *}" "$words" "$examples/$folder" & done <<<"$jobs"
+# The jobs are built two at a time: a build takes a gigabyte and more.
+while IFS='|' read -r words folder; do
+    [ "$(jobs -rp | wc -l)" -lt 2 ] || wait -n
+    job "${words%% *}" "$words" "$examples/$folder" &
+done <<<"$jobs"
+[ "$(jobs -rp | wc -l)" -lt 2 ] || wait -n
 job patched "link in=- out=- plain=*" "$work/to_patch" "patch=$examples/patches/checksum_o1.patch" &
 wait
 while IFS='|' read -r words folder; do show "${words%% *}" "$words" "examples/$folder"; done <<<"$jobs"
