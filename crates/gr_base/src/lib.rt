@@ -12,6 +12,7 @@ mod mem_desk;
 mod real_desk;
 mod seq;
 mod store;
+mod taker;
 mod text;
 mod whole;
 
@@ -23,5 +24,6 @@ pub use honest_desk::HonestDesk;
 pub use mem_desk::MemDesk;
 pub use real_desk::RealDesk;
 pub use seq::Seq;
+pub use taker::Taker;
 pub use text::Text;
-pub use whole::{MOST, ReadEnd, WriteFault, read_whole, write_whole};
+pub use whole::{MOST, ReadEnd, WriteFault, read_into, read_whole, write_whole};

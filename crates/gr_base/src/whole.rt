@@ -1,13 +1,14 @@
-ghost use Rattle.std.specs.Prelude.{◌≡◌, ◌≤◌, ◌<◌, ◌+◌, ◌^◌, ℕ, List, [], Some, None, length, IsTrue, IfOk, OnOk, OnErr, Err, ◌≢◌};
+ghost use Rattle.std.specs.Prelude.{◌≡◌, ◌≤◌, ◌<◌, ◌+◌, ◌-◌, ◌^◌, ℕ, List, [], Some, None, length, IsTrue, IfOk, OnOk, OnErr, Err, ◌≢◌};
 ghost use Rattle.gr_base.specs.declared.end.End.TheVariants as ends;
 ghost use Rattle.gr_base.specs.declared.whole.ReadEnd.TheVariants as reads;
 ghost use Rattle.gr_base.specs.declared.whole.WriteFault.{WriteFault};
 ghost use Rattle.gr_base.specs.Desk.{Files, Told, ToldBoth, SameFiles, Leaves, LeavesPart, Rose, Took, counted};
-ghost use Rattle.gr_base.specs.Whole.{LeavesFront};
+ghost use Rattle.gr_base.specs.Whole.{LeavesFront, TakesFile};
 
 use crate::bytes::Bytes;
 use crate::desk::{Desk, DeskFault};
 use crate::end::End;
+use crate::taker::Taker;
 use std::alloc::Global;
 
 /// The most bytes of one input file, 64 MiB.
@@ -73,15 +74,18 @@ pub fn read_whole<D: Desk>(alloc: Global, desk: &mut D, name: &str) -> Result<By
     ensures missing { IsTrue (D.steady desk.old) → result ≡ Err (ends.Fault reads.Fault) → Told (D.files desk.old) (λ held. held name.now ≡ None) }
 {
     let mut bytes = Bytes::new(alloc);
-    read_pieces(desk, name, &mut bytes)?;
+    read_into(desk, name, &mut bytes)?;
     Ok(bytes)
 }
 
-// Reads from the file's start to its end, or up to one byte more than it may have.
-fn read_pieces<D: Desk>(desk: &mut D, name: &str, bytes: &mut Bytes) -> Result<(), End<ReadEnd>>
-    requires { bytes.old ≡ [] }
-    ensures bound { OnOk result (length bytes.new ≤ 2 ^ 26) }
-    ensures content { OnOk result (Told (D.files desk.old) (λ held. held name.now ≡ Some bytes.new)) }
+/// Hands all bytes of a file, of at most `MOST`, to a taker, piece after piece, and answers how many
+/// they are. After an `Err` nothing is said of the taker.
+pub fn read_into<D: Desk, T: Taker>(
+    desk: &mut D,
+    name: &str,
+    taker: &mut T,
+) -> Result<u64, End<ReadEnd>>
+    ensures found { IfOk result (λ count. TakesFile T.took (D.files desk.old) name.now taker.old taker.new count) }
     ensures files { ToldBoth (D.files desk.old) (D.files desk.new) SameFiles }
     ensures made { D.made desk.new ≡ D.made desk.old }
     ensures steady { D.steady desk.new ≡ D.steady desk.old }
@@ -94,13 +98,15 @@ fn read_pieces<D: Desk>(desk: &mut D, name: &str, bytes: &mut Bytes) -> Result<(
     ensures missing { IsTrue (D.steady desk.old) → result ≡ Err (ends.Fault reads.Fault) → Told (D.files desk.old) (λ held. held name.now ≡ None) }
 {
     let mut buffer = [0u8; PIECE];
-    while bytes.len() <= MOST {
-        let size = PIECE.min(MOST + 1 - bytes.len());
-        let count = desk.fetch(name, bytes.len() as u64, &mut buffer[..size])?;
-        if count == 0 {
-            return Ok(());
+    let mut count = 0;
+    while count <= MOST {
+        let size = PIECE.min(MOST + 1 - count);
+        let more = desk.fetch(name, count as u64, &mut buffer[..size])?;
+        if more == 0 {
+            return Ok(count as u64);
         }
-        bytes.extend_from_slice(&buffer[..count])?;
+        taker.take(&buffer[..more])?;
+        count += more;
     }
     Err(End::Fault(ReadEnd::TooLarge))
 }

@@ -28,3 +28,7 @@ pub mod Entered
 pub mod Joined
 pub mod KeyOrders
 pub mod InOrder
+pub mod Fronts
+pub mod Feedings
+pub mod Outcomes
+pub mod Early

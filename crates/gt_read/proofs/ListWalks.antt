@@ -11,7 +11,7 @@ use Rattle.pb_wire.specs.Records.{records, IsPayload, Takes, content_of}
 use Rattle.pb_wire.specs.Faults.{wire_fault}
 use Rattle.gt_read.specs.Pieces.{Bytes, piece_of, Walk, walk, pieces, broken}
 use Rattle.gt_read.proofs.Walks.{OneRecord, walk_takes, walk_fails, walk-nil}
-use Rattle.gt_read.proofs.Merging.{behind}
+use Rattle.gt_read.specs.Drafts.Taken.{behind}
 
 -- the run of a record among the bytes behind others is its run among all of them
 content_behind : (base : ℕ) (before rest : List ℕ) (span : Span) → base + length before ≤ span.start → content_of rest (base + length before) span ≡ content_of (before ++ rest) base span

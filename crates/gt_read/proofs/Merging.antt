@@ -19,6 +19,7 @@ use Rattle.gt_read.specs.declared.fault.FormatFault.TheVariants.{Wire}
 use Rattle.gt_read.specs.Pieces.{Bytes, Piece, piece_of, Walk, put_first, walk, pieces}
 use Rattle.gt_read.specs.Faults.{first_of, message_faults, broken_faults}
 use Rattle.gt_read.specs.Drafts.Answers.{RunWithin, IsFirst, Folds}
+use Rattle.gt_read.specs.Drafts.Taken.{behind}
 use Rattle.gt_read.proofs.Walks.{OneRecord, walk_takes, walk_fails, walk-nil}
 
 -- a cursor over the bytes of a message
@@ -65,10 +66,6 @@ piece_there bytes base r (loads.Four n) old new s l = refl
 
 -- ---- what has been taken
 
--- the pieces before, and those of the walk
-abbrev pub behind : List Piece → Walk → Walk
-behind ps w = record { pieces = ps ++ w.pieces; broken = w.broken }
-
 pub record Merging {D : Type 0} (steps : D → Piece → D → Type 0) (faults : Piece → List FormatFault) (bytes : List ℕ) (base : ℕ) (first : D) (ahead : Ahead) (draft : D) : Type 0 where
   pub done : List Piece
   pub whole : walk bytes base ≡ behind done (walk ahead.bytes ahead.place)
@@ -76,11 +73,11 @@ pub record Merging {D : Type 0} (steps : D → Piece → D → Type 0) (faults :
   pub sound : flat_map faults done ≡ []
   pub stands : Stands bytes base ahead
 
-folds_more : {D : Type 0} (steps : D → Piece → D → Type 0) (ps : List Piece) (p : Piece) (a b c : D) → Folds steps a ps b → steps b p c → Folds steps a (ps ++ p ∷ []) c
+pub folds_more : {D : Type 0} (steps : D → Piece → D → Type 0) (ps : List Piece) (p : Piece) (a b c : D) → Folds steps a ps b → steps b p c → Folds steps a (ps ++ p ∷ []) c
 folds_more steps [] p a b c f s = (c, subst (λ x. steps x p c) f s, refl)
 folds_more steps (q ∷ qs) p a b c f s = (f.0, f.1, folds_more steps qs p f.0 b c f.2 s)
 
-flat_none : (faults : Piece → List FormatFault) (ps : List Piece) (p : Piece) → flat_map faults ps ≡ [] → faults p ≡ [] → flat_map faults (ps ++ p ∷ []) ≡ []
+pub flat_none : (faults : Piece → List FormatFault) (ps : List Piece) (p : Piece) → flat_map faults ps ≡ [] → faults p ≡ [] → flat_map faults (ps ++ p ∷ []) ≡ []
 flat_none faults ps p e f = flat_map-append faults ps (p ∷ []) ∙ rw (e, f) refl
 
 pub merging_first : {D : Type 0} (steps : D → Piece → D → Type 0) (faults : Piece → List FormatFault) (bytes : List ℕ) (base : ℕ) (first : D)
@@ -109,10 +106,10 @@ merging_next one steps faults bytes base first old new draft draft' r m t l same
 
 -- ---- the answers
 
-walked : (faults : Piece → List FormatFault) (w : Walk) → List FormatFault
+unfoldable pub walked : (faults : Piece → List FormatFault) (w : Walk) → List FormatFault
 walked faults w = flat_map faults w.pieces ++ broken_faults w.broken
 
-walked_behind : (faults : Piece → List FormatFault) (ps : List Piece) (w : Walk) → flat_map faults ps ≡ [] → walked faults (behind ps w) ≡ walked faults w
+pub walked_behind : (faults : Piece → List FormatFault) (ps : List Piece) (w : Walk) → flat_map faults ps ≡ [] → walked faults (behind ps w) ≡ walked faults w
 unfolding walked
 walked_behind faults ps w e = ap (λ (l : List FormatFault). l ++ broken_faults w.broken) (flat_map-append faults ps w.pieces ∙ rw e refl)
 
@@ -132,7 +129,7 @@ unfolding walked
 broke one steps faults bytes base first ahead draft fault m w here =
     ap first_of (ap (walked faults) m.whole ∙ walked_behind faults m.done (walk ahead.bytes ahead.place) m.sound ∙ ap (walked faults) (walk_fails one ahead.bytes ahead.place fault w here))
 
-first_more : (fs gs : List FormatFault) (e : End FormatFault) → IsFirst fs e → IsFirst (fs ++ gs) e
+pub first_more : (fs gs : List FormatFault) (e : End FormatFault) → IsFirst fs e → IsFirst (fs ++ gs) e
 first_more fs gs ends.Memory h = tt
 first_more [] gs (ends.Fault f) h = absurd cc
 first_more (g ∷ fs) gs (ends.Fault f) h = h

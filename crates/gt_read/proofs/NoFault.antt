@@ -40,19 +40,21 @@ body_made : (body : List ℕ) → Made ir_value (plain ir_rows (body_meaning bod
 unfolding body_meaning
 body_made body = ir_made 0 (pieces body body_at)
 
-pub sound_file : (bytes : List ℕ) → format_fault bytes ≡ None → (ir : Ir) × file bytes ir
+pub sound_as : (bytes : List ℕ) (made : Ir) → format_fault bytes ≡ None → plain ir_rows (body_meaning (body_of bytes)) ≡ ir_value made → file bytes made
 unfolding format_fault id_fault
-sound_file bytes e =
+sound_as bytes made e value =
     let body = body_of bytes in
     let byte = version_byte bytes in
     let first = neither (prefix_fault bytes) _ e in
     let second = neither (body_fault byte body) _ first.1 in
     let third = neither (first_of (faults ir_rows body body_at)) _ second.0 in
-    let made = body_made body in
-    let is : IsBody byte body made.0 None = record {
+    let is : IsBody byte body made None = record {
       sound = no_first _ third.0;
       same_version = same_byte byte (version_of (body_meaning body)) third.1;
-      value = made.1;
+      value = sym value;
       ids = sym (no_id _ second.1);
     } in
-    (made.0, is_file bytes made.0 first.0 is)
+    is_file bytes made first.0 is
+
+pub sound_file : (bytes : List ℕ) → format_fault bytes ≡ None → (ir : Ir) × file bytes ir
+sound_file bytes e = let made = body_made (body_of bytes) in (made.0, sound_as bytes made.0 e (sym made.1))

@@ -33,7 +33,7 @@ module _ (ls bs : List ℕ) (at : ℕ) (more : at < length ls) where
 pub ended : (ls bs : List ℕ) (at : ℕ) → length ls ≤ at → differs_at (drop at ls) (drop at bs) at ≡ None
 ended ls bs at le = ap (λ cs. differs_at cs (drop at bs) at) (drop_all at ls le)
 
-abbrev rest_fault : List ℕ → Option ℕ
+abbrev pub rest_fault : List ℕ → Option ℕ
 rest_fault bytes = cond (nat_lt (length bytes) 8) (Some (length bytes)) None
 
 pub found : (bytes : List ℕ) (at : ℕ) → differs_at letters bytes 0 ≡ Some at → Some (Prefix at) ≡ prefix_fault bytes

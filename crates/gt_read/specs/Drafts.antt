@@ -5,3 +5,4 @@ pub mod Answers
 pub mod Entries
 pub mod Views
 pub mod Bodies
+pub mod Taken

@@ -9,3 +9,6 @@ pub mod Joining
 pub mod Reading
 pub mod FaultText
 pub mod Drafts
+pub mod Outcome
+pub mod Feeding
+pub mod FeedingLaws

@@ -3,6 +3,7 @@
 
 mod block_drafts;
 mod blocks;
+mod bodies;
 mod carry;
 mod children;
 mod edge_drafts;
@@ -10,6 +11,8 @@ mod edges;
 mod expr_drafts;
 mod exprs;
 mod fault;
+mod feeding;
+mod feeding_drafts;
 mod file;
 mod ids;
 mod intervals;
@@ -26,4 +29,5 @@ mod symbols;
 mod tables;
 
 pub use fault::FormatFault;
+pub use feeding::Feeder;
 pub use file::read_file;

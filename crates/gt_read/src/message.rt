@@ -1,16 +1,17 @@
-ghost use Rattle.std.specs.Prelude.{◌≡◌, ◌+◌, ◌-◌, ◌^◌, ◌≤◌, ℕ, List, Option, length, IfOk};
+ghost use Rattle.std.specs.Prelude.{◌≡◌, ◌+◌, ◌-◌, ◌^◌, ◌≤◌, ◌++◌, ℕ, List, Option, length, IfOk, IfErr};
 ghost use Rattle.gt_read.specs.Pieces.{Piece as SpecPiece, pieces};
 ghost use Rattle.gt_read.specs.declared.fault.FormatFault.{FormatFault};
 ghost use Rattle.gt_read.specs.declared.ids.IdFault.{IdFault};
 ghost use Rattle.gt_read.specs.Faults.{message_faults};
-ghost use Rattle.gt_read.specs.Drafts.Answers.{piece, Answers, Folds, WasRead};
+ghost use Rattle.gt_read.specs.Drafts.Answers.{piece, Answers, Folds, IsFirst, WasRead};
+ghost use Rattle.gt_read.specs.Drafts.Taken.{TakesFront};
 
 use crate::carry::carry;
 use crate::fault::FormatFault;
 use crate::ids::IdFault;
 use crate::pieces::{Piece, Run};
 use gr_base::End;
-use pb_wire::{Cursor, laws};
+use pb_wire::{Cursor, Scan, laws, scan};
 use std::alloc::{AllocError, Global};
 
 /// The draft of a message, which takes one record after another.
@@ -55,6 +56,34 @@ pub fn merge<M: Message>(
         match cursor.next() {
             Ok(None) => return Ok(()),
             Ok(Some(record)) => draft.take(alloc, &carry(bytes, base, &record))?,
+            Err(fault) => return Err(End::Fault(FormatFault::Wire(fault))),
+        }
+    }
+}
+
+/// Takes the whole records at the front of bytes, of which the first is at the base, and answers how
+/// many bytes they have. After an `Err` nothing is said of the draft.
+pub fn take_front<M: Message>(
+    alloc: Global,
+    draft: &mut M,
+    bytes: &[u8],
+    base: u64,
+) -> Result<usize, End<FormatFault>>
+    requires { base + length bytes.now ≤ 2 ^ 64 - 1 }
+    ensures ok { IfOk result (λ size. TakesFront M.steps M.faults bytes.now base draft.old size draft.new) }
+    ensures err { IfErr result (λ end. (rest : List ℕ) → IsFirst (message_faults M.faults (bytes.now ++ rest) base) end) }
+{
+    laws::records_are_read();
+    let mut at = 0;
+    'records: loop {
+        let left = &bytes[at..];
+        let place = base + at as u64;
+        match scan(left, place) {
+            Ok(Scan::Whole(record, size)) => {
+                draft.take(alloc, &carry(left, place, &record))?;
+                at += size as usize;
+            }
+            Ok(Scan::Short) => return Ok(at),
             Err(fault) => return Err(End::Fault(FormatFault::Wire(fault))),
         }
     }

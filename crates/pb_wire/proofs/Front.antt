@@ -1,6 +1,6 @@
 -- The record at the front of bytes, as the function and the relations have it.
 use Rattle.std.proofs.Common.{◌≡◌, ℕ, zero, suc, ◌+◌, ◌*◌, ◌/◌, ◌%◌, ◌<◌, ◌≤◌, Bool, true, false, cond, eqb, ltb, List, [], ◌∷◌, ◌++◌, length, get_or, take, drop, Result, Ok, Err, refl, sym, ap, subst, ◌∙◌, append_assoc, arith, inl, inr}
-use Rattle.std.specs.Prelude.{◌⊎◌, ◌||◌, IsTrue, IfOk, IfErr}
+use Rattle.std.specs.Prelude.{◌⊎◌, ◌||◌, IsTrue}
 use Rattle.std.specs.List.{AllByRecursion}
 use Rattle.std.specs.Int.{w32, w64, from_le_bytes}
 use Rattle.std.proofs.lemmas.Bool.{ltb-true, ltb-false, lt-ltb, le-ltb, eqb-true}
@@ -291,19 +291,6 @@ key_missed bytes place reason (Ok x) fits e g =
 pub record_failed : (bytes : List ℕ) (place : ℕ) (reason : WireReason) → AreBytes bytes → record_of bytes place ≡ Err reason → Fails bytes reason
 unfolding record_of
 record_failed bytes place reason fits e = key_missed bytes place reason (varint_of bytes) fits refl e
-
--- what the answer of a call says
-pub here_of : (bytes : List ℕ) (place : ℕ) (answer : Result (Record × ℕ) WireReason) → AreBytes bytes → answer ≡ record_of bytes place → IfOk answer (λ found. found.0.place ≡ place)
-here_of bytes place (Ok found) fits e = (record_found bytes place found fits (sym e)).here
-here_of bytes place (Err reason) fits e = tt
-
-pub spelled_of : (bytes : List ℕ) (place : ℕ) (answer : Result (Record × ℕ) WireReason) → AreBytes bytes → answer ≡ record_of bytes place → IfOk answer (λ found. Spells found.0 (take found.1 bytes))
-spelled_of bytes place (Ok found) fits e = (record_found bytes place found fits (sym e)).spelled
-spelled_of bytes place (Err reason) fits e = tt
-
-pub fails_of : (bytes : List ℕ) (place : ℕ) (answer : Result (Record × ℕ) WireReason) → AreBytes bytes → answer ≡ record_of bytes place → IfErr answer (Fails bytes)
-fails_of bytes place (Ok found) fits e = tt
-fails_of bytes place (Err reason) fits e = record_failed bytes place reason fits (sym e)
 
 -- bytes that a program holds
 pub are_bytes : (bytes : List ℕ) → ((i : ℕ) → get_or bytes i 0 < 256) → AreBytes bytes

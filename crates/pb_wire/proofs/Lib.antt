@@ -6,3 +6,4 @@ pub mod Steps
 pub mod Shortest
 pub mod Spelling
 pub mod Long
+pub mod Lasting

@@ -11,6 +11,9 @@ use Rattle.pb_wire.specs.Ahead.{Ahead}
 use Rattle.pb_wire.specs.Records.{records, IsPayload, Spells, Takes, RunLies}
 use Rattle.pb_wire.specs.Faults.{Fails, wire_fault}
 use Rattle.pb_wire.specs.Reading.{record_of}
+use Rattle.pb_wire.specs.Scanning.{IsFront, IsBroken}
+use Rattle.pb_wire.proofs.Front.{record_fails}
+use Rattle.pb_wire.proofs.Lasting.{front_read}
 use Rattle.pb_wire.proofs.Lists.{spelling_long, first_of, list_from, fault_left, fault_from, fault_here, no_list}
 
 abbrev ahead : ℕ → List ℕ → Ahead
@@ -26,6 +29,16 @@ pub record Reads (left : List ℕ) (place : ℕ) (r : Record) (size : ℕ) : Typ
   pub within : size ≤ length left
   pub here : r.place ≡ place
   pub spelled : Spells r (take size left)
+
+pub reads_front : (left : List ℕ) (place : ℕ) (r : Record) (size : ℕ) → IsFront left place r size → Reads left place r size
+reads_front left place r size f = record { is = front_read left place r size f; within = f.within; here = f.here; spelled = f.spelled }
+
+pub rest_long : (left : List ℕ) (place : ℕ) (r : Record) (size : ℕ) → Reads left place r size → length (rest left size) ≡ length left - size
+rest_long left place r size h = rw (take_rest left size) (omega (arith, length-drop size left))
+
+pub together_step : (left : List ℕ) (place : ℕ) (r : Record) (size : ℕ) (old : Ahead) → ahead place left ≡ old → Reads left place r size → place + size + length (rest left size) ≡ old.place + length old.bytes
+together_step left place r size old view h =
+    subst (λ (o : Ahead). place + size + length (rest left size) ≡ o.place + length o.bytes) view (omega (arith, rest_long left place r size h, h.within))
 
 some_bytes : (left : List ℕ) (place : ℕ) (r : Record) (size : ℕ) → Reads left place r size → (1 ≤ size) × (left ≢ [])
 some_bytes left place r size h =
@@ -100,3 +113,10 @@ no_list_step left place reason old view some e list =
 pub not_nil : (l : List ℕ) → false ≡ eqb (length l) 0 → l ≢ []
 not_nil [] h = absurd cc
 not_nil (b ∷ bs) h = λ e. cc
+
+pub broken_step : (left : List ℕ) (place : ℕ) (old : Ahead) (fault : WireFault) → ahead place left ≡ old → left ≢ [] → IsBroken left place fault → wire_fault old.bytes old.place fault
+broken_step left place old fault view some b =
+    subst (λ at. wire_fault old.bytes old.place (record { place = at; reason = fault.reason })) (sym b.here) (err_step left place fault.reason old view some b.fails)
+
+pub cut_step : (left : List ℕ) (place : ℕ) (reason : WireReason) (old : Ahead) → ahead place left ≡ old → left ≢ [] → Fails left reason → (list : List Record) → records old.bytes old.place list → ⊥
+cut_step left place reason old view some fails = no_list_step left place reason old view some (record_fails left reason place fails)

@@ -3,3 +3,4 @@ pub mod Varint
 pub mod Records
 pub mod Faults
 pub mod Reading
+pub mod Scanning

@@ -4,9 +4,9 @@ ghost use Rattle.pb_wire.specs.declared.fault.WireFault.{WireFault};
 ghost use Rattle.pb_wire.specs.Records.{records, Takes, RunLies};
 ghost use Rattle.pb_wire.specs.Faults.{wire_fault};
 
-use crate::fault::WireFault;
-use crate::reading::read_record;
-use crate::records::Record;
+use crate::fault::{WireFault, WireReason};
+use crate::records::{Record, Scan};
+use crate::scanning::scan;
 use std::marker::Model;
 
 /// Reads the records of a message, one after another.
@@ -65,16 +65,17 @@ impl<'a> Cursor<'a> {
         if self.left.is_empty() {
             return Ok(None);
         }
-        match read_record(self.left, self.place) {
-            Ok((record, size)) => {
-                self.left = &self.left[size..];
-                self.place += size as u64;
+        match scan(self.left, self.place) {
+            Ok(Scan::Whole(record, size)) => {
+                self.left = &self.left[size as usize..];
+                self.place += size;
                 Ok(Some(record))
             }
-            Err(reason) => Err(WireFault {
+            Ok(Scan::Short) => Err(WireFault {
                 place: self.place,
-                reason,
+                reason: WireReason::Truncated,
             }),
+            Err(fault) => Err(fault),
         }
     }
 }

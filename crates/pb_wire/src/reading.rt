@@ -1,8 +1,7 @@
 ghost use Rattle.std.specs.Prelude.{◌≡◌, ◌+◌, ◌-◌, ◌^◌, ◌≤◌, length, take, IfOk, IfErr};
 ghost use Rattle.pb_wire.specs.Reading.{varint_of, payload_of, record_of, eight_load, four_load, run_load};
-ghost use Rattle.pb_wire.specs.Records.{Spells};
 ghost use Rattle.pb_wire.specs.Varint.{IsVarint};
-ghost use Rattle.pb_wire.specs.Faults.{Fails, VarintFails};
+ghost use Rattle.pb_wire.specs.Faults.{VarintFails};
 
 use crate::fault::WireReason;
 use crate::records::{Load, Record, Span};
@@ -101,7 +100,7 @@ fn read_payload(wire: u64, bytes: &[u8], place: u64) -> Result<(Load, usize), Wi
 
 /// The record at the front, whose first byte is at the place, and how many bytes it has.
 #[tactic(auto, unfolding(crate::specs::Reading::record_of))]
-fn read_parts(bytes: &[u8], place: u64) -> Result<(Record, usize), WireReason>
+pub fn read_record(bytes: &[u8], place: u64) -> Result<(Record, usize), WireReason>
     requires { place + length bytes.now ≤ 2 ^ 64 - 1 }
     ensures value { result ≡ record_of bytes.now place }
     ensures within { IfOk result (λ found. found.1 ≤ length bytes.now) }
@@ -113,16 +112,4 @@ fn read_parts(bytes: &[u8], place: u64) -> Result<(Record, usize), WireReason>
     }
     let (load, payload_size) = read_payload(key % 8, &bytes[size..], place + size as u64)?;
     Ok((Record { place, field, load }, size + payload_size))
-}
-
-/// The record at the front, whose first byte is at the place, and how many bytes it has.
-pub fn read_record(bytes: &[u8], place: u64) -> Result<(Record, usize), WireReason>
-    requires { place + length bytes.now ≤ 2 ^ 64 - 1 }
-    ensures value { result ≡ record_of bytes.now place }
-    ensures within { IfOk result (λ found. found.1 ≤ length bytes.now) }
-    ensures here { IfOk result (λ found. found.0.place ≡ place) }
-    ensures spelled { IfOk result (λ found. Spells found.0 (take found.1 bytes.now)) }
-    ensures fails { IfErr result (Fails bytes.now) }
-{
-    read_parts(bytes, place)
 }

@@ -27,3 +27,12 @@ pub struct Span {
     pub start: u64,
     pub len: u64,
 }
+
+/// What stands at the front of bytes to which more may come.
+#[derive(Clone, Copy, Debug, PartialEq, Eq)]
+pub enum Scan {
+    /// A record, and how many bytes it has.
+    Whole(Record, u64),
+    /// No record yet: more bytes may complete one.
+    Short,
+}
