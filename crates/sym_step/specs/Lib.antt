@@ -2,3 +2,4 @@ pub mod Runner
 pub mod Order
 pub mod Room
 pub mod Found
+pub mod Common

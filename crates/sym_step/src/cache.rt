@@ -3,9 +3,10 @@
 ghost use Rattle.std.specs.Prelude.{◌≡◌, ◌<◌, Some, IfOk, IfSome, IsTrue};
 ghost use Rattle.a64_inst.specs.Table.{is_allowed, row};
 ghost use Rattle.sym_expr.specs.declared.program.Program.{Program as ProgramOf};
-ghost use Rattle.sym_expr.specs.Points.{reached, word_at};
+ghost use Rattle.sym_expr.specs.Points.{after, reached, word_at};
 ghost use Rattle.sym_step.specs.Found.{IsCache, IsFound};
 
+use crate::common::{Common, common_of};
 use a64_inst::Inst;
 use a64_ops::{OpList, ops};
 use std::alloc::{AllocError, Global};
@@ -14,32 +15,39 @@ use sym_expr::{Point, Target, Word};
 /// How many places are kept.
 const SLOTS: usize = 1024;
 
-/// What a step finds of its place: the point that has the word, what the word's expression names, and the operations of
-/// its instruction.
+/// What a step finds of its place: the point that has the word and the one after it, what the word's expression names,
+/// and the operations of its instruction, which may be a common one.
 #[derive(Drop)]
 pub struct Found {
     pub place: Point,
     pub at: Point,
+    /// The point after the instruction.
+    pub after: Point,
     pub named: Option<Target>,
     pub ops: OpList,
+    pub common: Option<Common>,
 }
 
 impl Found {
     /// What a step finds of a place that goes on to a point, where the word of an instruction is.
-    pub fn new(place: &Point, at: &Point, word: &Word, inst: &Inst) -> Found
+    pub fn new(place: &Point, at: &Point, onward: &Point, word: &Word, inst: &Inst) -> Found
         requires allowed { IsTrue (is_allowed inst.now) }
         requires row { row word.now.word ≡ Some inst.now }
         ensures place { result.place ≡ place.now }
-        ensures is { (g : ProgramOf) → reached g place.now ≡ at.now → word_at g at.now ≡ Some word.now → IsFound g result }
+        ensures is { (g : ProgramOf) → reached g place.now ≡ at.now → word_at g at.now ≡ Some word.now → onward.now ≡ after g at.now → IsFound g result }
     {
         a64_ops::laws::operations_are_sound();
         crate::laws::stores_come_early();
         let list = ops(inst);
+        let slice = list.as_slice();
+        let common = common_of(slice);
         Found {
             place: *place,
             at: *at,
+            after: *onward,
             named: word.target,
             ops: list,
+            common,
         }
     }
 }

@@ -8,7 +8,7 @@ ghost use Rattle.sym_expr.specs.Symbolic.{symbolic};
 ghost use Rattle.sym_expr.specs.Steps.{step};
 ghost use Rattle.sym_step.specs.declared.flow.Flow.TheVariants.{Stuck};
 ghost use Rattle.sym_step.specs.Found.{IsCache, IsFound};
-ghost use Rattle.sym_step.specs.Runner.{came, Keeps, state};
+ghost use Rattle.sym_step.specs.Runner.{came, Keeps, KeepsOutput, state};
 
 use crate::cache::{Cache, Found};
 use crate::flow::Flow;
@@ -38,6 +38,29 @@ impl<'a> Runner<'a> {
         Flow::Trap(Trap::Undecoded)
     }
 
+    /// Does the operations of what was found, at its point.
+    #[tactic(auto, using(crate::proofs::Commons::common_is))]
+    fn do_found(
+        &mut self,
+        program: &IndexedProgram,
+        values: &mut Vec<Value>,
+        found: &Found,
+    ) -> Result<Flow, AllocError>
+        requires found { IsFound program.now found.now }
+        requires place { self.old.place ≡ found.now.at }
+        ensures flows { IfOk result (λ flow. exec (symbolic program.now) found.now.ops [] (state self.old) ≡ came flow (state self.new)) }
+        ensures err { OnErr result (state self.new ≡ state self.old) }
+        ensures output { KeepsOutput self.old self.new }
+    {
+        if let Some(common) = &found.common {
+            return self.do_common(program, &found.after, common);
+        }
+        let ops = found.ops.as_slice();
+        values.clear();
+        values.reserve(ops.len())?;
+        self.exec_all(program, values, ops)
+    }
+
     /// Does the instruction of what was found.
     fn execute(
         &mut self,
@@ -50,14 +73,11 @@ impl<'a> Runner<'a> {
         ensures stuck { IfOk result (λ flow. (cause : CauseOf) → flow ≡ Stuck cause → Keeps self.old self.new) }
         ensures err { OnErr result (state self.new ≡ state self.old) }
     {
-        let ops = found.ops.as_slice();
-        values.clear();
-        values.reserve(ops.len())?;
         let (place, before) = (self.place, self.named);
         let written = self.output.bytes.len();
         self.place = found.at;
         self.named = found.named;
-        match self.exec_all(program, values, ops) {
+        match self.do_found(program, values, found) {
             Ok(Flow::Stuck(cause)) => {
                 self.take_back(&place, written);
                 Ok(Flow::Stuck(cause))
@@ -93,7 +113,8 @@ impl<'a> Runner<'a> {
         let Some(inst) = decode(word.word) else {
             return Ok(self.undecoded(&at, word.target));
         };
-        let found = Found::new(&self.place, &at, &word, &inst);
+        let onward = program.after(at);
+        let found = Found::new(&self.place, &at, &onward, &word, &inst);
         let flow = self.execute(program, values, &found)?;
         cache.put(found);
         Ok(flow)

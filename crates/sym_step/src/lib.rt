@@ -5,6 +5,8 @@ mod cache;
 mod call;
 mod changes;
 mod choices;
+mod common;
+mod common_steps;
 mod execute;
 mod flags;
 mod flow;
@@ -19,6 +21,7 @@ mod runner;
 mod stores;
 
 pub use cache::{Cache, Found};
+pub use common::{Common, End, Start};
 pub use flow::Flow;
 pub use output::Output;
 pub use registers::Registers;

@@ -4,7 +4,7 @@ ghost use Rattle.std.specs.Prelude.{◌≡◌, ℕ, OnOk};
 ghost use Rattle.sym_expr.specs.declared.value.Object.{Object as ObjectOf};
 ghost use Rattle.sym_values.specs.Kept.{kept_room};
 ghost use Rattle.sym_step.specs.Room.{RoomAt, RoomFor, RoomForAll};
-ghost use Rattle.sym_step.specs.Runner.{state};
+ghost use Rattle.sym_step.specs.Runner.{Keeps, state};
 
 use crate::given::value_at;
 use crate::runner::Runner;
@@ -14,8 +14,9 @@ use sym_expr::Value;
 
 impl<'a> Runner<'a> {
     /// Makes room for so many values more where an address leads.
-    fn reserve_at(&mut self, at: &Value, count: usize) -> Result<(), AllocError>
+    pub fn reserve_at(&mut self, at: &Value, count: usize) -> Result<(), AllocError>
         ensures state { state self.new ≡ state self.old }
+        ensures keeps { Keeps self.old self.new }
         ensures ok { OnOk result (RoomAt self.new.memory count at.now) }
         ensures room { (other : ObjectOf) (more : ℕ) → kept_room self.old.memory more other → kept_room self.new.memory more other }
     {

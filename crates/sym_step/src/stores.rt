@@ -1,8 +1,9 @@
 //! Stores, for which there is room.
 
-ghost use Rattle.std.specs.Prelude.{◌≡◌, ◌+◌, ℕ, IsTrue};
+ghost use Rattle.std.specs.Prelude.{◌≡◌, ◌+◌, ℕ, IfOk, IsTrue, OnErr};
 ghost use Rattle.a64_ops.specs.Sound.{is_size};
 ghost use Rattle.sym_expr.specs.declared.value.Object.{Object as ObjectOf};
+ghost use Rattle.sym_expr.specs.declared.value.Value.TheVariants.{Num};
 ghost use Rattle.sym_expr.specs.States.{number_cells, value_cells};
 ghost use Rattle.sym_expr.specs.Symbolic.{put_cells, store_outcome};
 ghost use Rattle.sym_values.specs.Kept.{kept_room};
@@ -12,6 +13,7 @@ ghost use Rattle.sym_step.specs.Runner.{Flows, Keeps, state};
 
 use crate::flow::Flow;
 use crate::runner::Runner;
+use std::alloc::AllocError;
 use sym_expr::{Cause, Value};
 use sym_values::{laws, number_in};
 
@@ -51,6 +53,33 @@ impl<'a> Runner<'a> {
         }
         let _ = self.memory.put_value(*object, *offset, *value);
         Flow::On
+    }
+
+    /// Stores so many bytes of a number.
+    fn store_number(&mut self, count: u8, n: u64, at: &Value) -> Flow
+        requires { IsTrue (is_size count) }
+        ensures flows { Flows (store_outcome count (Num n) at.now (state self.old)) result (state self.new) }
+        ensures keeps { Keeps self.old self.new }
+    {
+        if count == 8 {
+            self.put_number(8, n, at)
+        } else {
+            self.put_number(count, n, at)
+        }
+    }
+
+    /// Stores so many bytes of a value, with room made for what is no number.
+    pub fn store_common(&mut self, count: u8, value: &Value, at: &Value) -> Result<Flow, AllocError>
+        requires { IsTrue (is_size count) }
+        ensures flows { IfOk result (λ flow. Flows (store_outcome count value.now at.now (state self.old)) flow (state self.new)) }
+        ensures err { OnErr result (state self.new ≡ state self.old) }
+        ensures keeps { Keeps self.old self.new }
+    {
+        if let Value::Num(n) = *value {
+            return Ok(self.store_number(count, n, at));
+        }
+        self.reserve_at(at, 1)?;
+        Ok(self.store(count, value, at))
     }
 
     /// Stores so many bytes of a value at an address: eight bytes hold any value.

@@ -9,5 +9,5 @@ returns-clause-flows c =
     let s = state c.args.self.now in
     let point : reached g s.place ≡ c.reached-at.result = search rules in
     let here : word_at g c.reached-at.result ≡ Some c.in-Some.word = search rules in
-    let found = c.new-found.ensures.is g point here in
+    let found = c.new-found.ensures.is g point here c.after-onward.ensures in
     found.does s (sym c.new-found.ensures.place) ∙ c.in_ok-flow.ensures.flows
