@@ -2,3 +2,4 @@ pub mod Faults
 pub mod Modules
 pub mod Outcomes
 pub mod Places
+pub mod Valid

@@ -5,3 +5,4 @@ mod module;
 mod place;
 
 pub use module::{AsmAt, AsmInterval, AsmLabel, AsmModule};
+pub use place::{Place, after, may_stand};

@@ -8,7 +8,7 @@ use uuid::Uuid;
 
 /// Where a line stands.
 #[derive(Clone, Copy, Debug, PartialEq, Eq)]
-pub(crate) enum Place {
+pub enum Place {
     /// Ahead of the first section.
     Ahead,
     /// In a section, ahead of its first interval.
@@ -44,7 +44,7 @@ fn behind_item(place: Place, size: u64) -> Option<Place>
 }
 
 /// Where the line behind it stands, if its offset is a number of 64 bits.
-pub(crate) fn after(place: Place, line: &AsmLine) -> Option<Place>
+pub fn after(place: Place, line: &AsmLine) -> Option<Place>
     ensures { IfSome result (λ behind. behind ≡ after place line.now) }
 {
     match line {
@@ -77,7 +77,7 @@ fn can_enter(place: Place) -> bool
 }
 
 /// Whether the line may stand there.
-pub(crate) fn may_stand(place: Place, line: &AsmLine) -> bool
+pub fn may_stand(place: Place, line: &AsmLine) -> bool
     ensures { result ≡ may_stand place line.now }
 {
     match line {

@@ -1,0 +1,9 @@
+pub mod Choices
+pub mod Differences
+pub mod Instants
+pub mod Marks
+pub mod Moved
+pub mod Numbers
+pub mod Readings
+pub mod Unique
+pub mod Values
