@@ -7,7 +7,7 @@ use Rattle.command_words.specs.declared.role.Role.{Role}
 use Rattle.command_words.specs.declared.role.Role.TheVariants as roles
 use Rattle.command_words.specs.declared.table.TheConstants.{JOBS, NAMES}
 use Rattle.command_words.specs.declared.table.Job.{Job}
-use Rattle.command_words.specs.declared.table.Job.TheVariants.{Recode, Check, Rewrite, Run, Sim, Demo}
+use Rattle.command_words.specs.declared.table.Job.TheVariants.{Recode, Check, Rewrite, Print, Run, Sim, Demo}
 use Rattle.command_words.specs.declared.table.Job.TheVariants.{Layout as LayoutJob, Link as LinkJob}
 use Rattle.command_words.specs.declared.table.Kind.{Kind}
 use Rattle.command_words.specs.declared.table.WordName.{WordName}
@@ -50,6 +50,7 @@ same_job Recode Recode = true
 same_job Check Check = true
 same_job Rewrite Rewrite = true
 same_job LayoutJob LayoutJob = true
+same_job Print Print = true
 same_job LinkJob LinkJob = true
 same_job Run Run = true
 same_job Sim Sim = true

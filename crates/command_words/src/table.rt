@@ -17,6 +17,8 @@ pub enum Job {
     Rewrite,
     /// Writes the default layout of a module's program.
     Layout,
+    /// Writes a module as assembly.
+    Print,
     /// Links a module's program to an image.
     Link,
     /// Runs an image and writes its output.
@@ -111,7 +113,7 @@ type JobRow = (Job, &'static str, &'static [WordName], &'static [WordName]);
 pub type NameRow = (WordName, &'static str, Kind);
 
 /// The jobs.
-pub const JOBS: [JobRow; 8] = [
+pub const JOBS: [JobRow; 9] = [
     (Job::Recode, "recode", &[WordName::In, WordName::Out], &[]),
     (
         Job::Check,
@@ -133,6 +135,17 @@ pub const JOBS: [JobRow; 8] = [
     (
         Job::Layout,
         "layout",
+        &[WordName::In, WordName::Out],
+        &[
+            WordName::Patch,
+            WordName::Module,
+            WordName::Plain,
+            WordName::Isa,
+        ],
+    ),
+    (
+        Job::Print,
+        "print",
         &[WordName::In, WordName::Out],
         &[
             WordName::Patch,

@@ -29,11 +29,22 @@ fn begins(alloc: Global, bytes: &[u8], digits: &str) -> bool {
     }
 }
 
-/// Whether a file has bytes from a place on, where these are `FILE FROM BYTES`.
+/// Whether bytes are those of lines, each of which ends with a semicolon.
+fn are_lines(bytes: &[u8], lines: &str) -> bool {
+    bytes.len() == lines.len()
+        && bytes.iter().zip(lines.as_bytes()).all(|(byte, wanted)| byte == wanted
+            || (*wanted == b';' && *byte == b'\n'))
+}
+
+/// Whether a file has bytes from a place on, where these are `FILE FROM BYTES`, or is lines, where they are
+/// `FILE lines LINES`.
 fn has_bytes(alloc: Global, desk: &MemDesk, wanted: &str) -> bool {
     let Some((name, rest)) = wanted.split_once(' ') else {
         return false;
     };
+    if let Some(lines) = rest.strip_prefix("lines ") {
+        return desk.get(name).is_some_and(|bytes| are_lines(bytes, lines));
+    }
     let Some((from, digits)) = rest.split_once(' ') else {
         return false;
     };

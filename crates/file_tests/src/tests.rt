@@ -1,5 +1,6 @@
 mod desks;
 mod faults;
+mod feeding;
 mod fields;
 mod recoding;
 mod records;

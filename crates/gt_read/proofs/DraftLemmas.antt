@@ -9,13 +9,13 @@ use Rattle.gt_read.specs.declared.ids.IdFault.{IdFault}
 use Rattle.gt_read.specs.Pieces.{Piece, Carried, Number, Bytes, Fixed, pieces}
 use Rattle.gt_read.specs.Kinds.{Run}
 use Rattle.gt_read.specs.Meaning.{meaning}
-use Rattle.gt_read.specs.Identifiers.{plain, bad, earlier, least}
+use Rattle.gt_read.specs.Identifiers.{bad, earlier, least}
 use Rattle.gt_read.specs.Faults.{in_run}
-use Rattle.gt_read.specs.Drafts.Draft.{DFields, done, drafted, empty, opened, entered, added, step, finished, worst, fault_if}
+use Rattle.gt_read.specs.Drafts.Draft.{DFields, done, drafted, lean, empty, opened, entered, added, step, finished, worst, fault_if}
 use Rattle.gt_read.specs.Drafts.Answers.{Starts, Steps, Finishes, Folds, WasRead, Entered, EntersRun, AddsRun, FinishesIf}
 use Rattle.gt_read.specs.declared.fault.FormatFault.{FormatFault}
 use Rattle.gt_read.proofs.Steps.{stepped_all}
-use Rattle.gt_read.proofs.Finishing.{back, all_worst}
+use Rattle.gt_read.proofs.Finishing.{all_worst}
 
 -- a number's records are never at fault
 pub silent : (place : ℕ) (c : Carried) → ◌≡◌ {A = List FormatFault} (in_run (λ place start bytes. []) place c ++ []) []
@@ -41,13 +41,18 @@ module _ {D : Type 0} (rows : Rows) (view : D → DFields rows) where
   enters_view old (Some r) new e = ap (option_map view) e.1 ∙ ap (λ d. Some d) (entered_view old r.place (pieces r.bytes r.start) e.0 e.2)
 
   module _ {A : Type 0} (value : A → Fields Plain rows) where
-    -- what was read whole is the meaning
+    -- what was read whole is what the meaning's draft comes to
     pub was_read : (place : ℕ) (ps : List Piece) (made : A) (fault : Option IdFault) → WasRead (Starts rows view) (Steps rows view) (Finishes rows view value) place ps made fault
-        → (value made ≡ plain rows (meaning rows place ps)) × (fault ≡ least (bad rows (meaning rows place ps)))
+        → (value made ≡ finished rows (drafted rows (meaning rows place ps))) × (fault ≡ least (bad rows (meaning rows place ps)))
     was_read place ps made fault w =
         let last : view w.last ≡ drafted rows (meaning rows place ps) =
         folds_view ps w.first w.last w.folded ∙ ap (λ d. fold (step rows) d ps) w.begun ∙ sym (stepped_all rows place [] ps) in
-        (w.ended.0 ∙ ap (finished rows) last ∙ back rows (meaning rows place ps), w.ended.1 ∙ ap (worst rows) last ∙ all_worst rows (meaning rows place ps))
+        (w.ended.0 ∙ ap (finished rows) last, w.ended.1 ∙ ap (worst rows) last ∙ all_worst rows (meaning rows place ps))
+
+    lean-map : (items : List A) (fault : Option IdFault)
+        → ◌≡◌ {A = List (Fields Plain rows) × Option IdFault} (map value (lean items fault).0, (lean items fault).1) (lean (map value items) fault)
+    lean-map items None = refl
+    lean-map items (Some f) = refl
 
     pub adds_view : (items : List A) (fault : Option IdFault) (r : Option Run) (items' : List A) (fault' : Option IdFault)
         → AddsRun (Starts rows view) (Steps rows view) (Finishes rows view value) items fault r items' fault'
@@ -55,9 +60,11 @@ module _ {D : Type 0} (rows : Rows) (view : D → DFields rows) where
     adds_view items fault None items' fault' e = λ i. (map value (e.0 i), e.1 i)
     adds_view items fault (Some r) items' fault' e =
         let made = was_read r.place (pieces r.bytes r.start) e.0 e.1 e.2 in
-        let both : map value items' ≡ map value items ++ plain rows (meaning rows r.place (pieces r.bytes r.start)) ∷ [] =
-        ap (map value) e.3 ∙ map-append value items (e.0 ∷ []) ∙ ap (λ (v : Fields Plain rows). map value items ++ v ∷ []) made.0 in
-        λ i. (both i, (e.4 ∙ ap (earlier fault) made.1) i)
+        let all : map value (items ++ e.0 ∷ []) ≡ map value items ++ finished rows (drafted rows (meaning rows r.place (pieces r.bytes r.start))) ∷ [] =
+        map-append value items (e.0 ∷ []) ∙ ap (λ (v : Fields Plain rows). map value items ++ v ∷ []) made.0 in
+        ap (λ (x : List A × Option IdFault). (map value x.0, x.1)) e.3
+        ∙ lean-map (items ++ e.0 ∷ []) (earlier fault e.1)
+        ∙ (λ i. lean (all i) (earlier fault (made.1 i)))
 
     pub finishes_if : (slot : Option D) (made : Option A) (fault : Option IdFault) → FinishesIf (Finishes rows view value) slot made fault
         → (option_map value made ≡ option_map (finished rows) (option_map view slot)) × (fault ≡ fault_if (worst rows) (option_map view slot))

@@ -1,5 +1,5 @@
 -- An entry of a map is read as a message of two fields.
-use Rattle.std.proofs.Common.{◌≡◌, ℕ, [], Option, Some, None, sym, ap, ◌∙◌}
+use Rattle.std.proofs.Common.{◌≡◌, ℕ, [], Option, Some, None, refl, sym, ap, ◌∙◌}
 use Rattle.std.specs.Prelude.{unwrap_or}
 use Rattle.std.specs.List.{fold}
 use Rattle.std.specs.Option.{option_map}
@@ -9,21 +9,21 @@ use Rattle.gt_read.specs.declared.ids.IdFault.{IdFault}
 use Rattle.gt_read.specs.Pieces.{pieces}
 use Rattle.gt_read.specs.Kinds.{Read, Run, absent, of_number}
 use Rattle.gt_read.specs.Meaning.{meaning, entry_of, last_value, joined_message}
-use Rattle.gt_read.specs.Identifiers.{plain, bad, least}
+use Rattle.gt_read.specs.Identifiers.{bad, least}
 use Rattle.gt_read.specs.Drafts.Draft.{DFields, drafted, drafted_plain, empty, opened, step, finished, worst}
 use Rattle.gt_read.specs.Drafts.Entries.{entry_rows, EntryFinishes}
 use Rattle.gt_read.specs.Drafts.Answers.{Starts, Steps, WasRead}
 use Rattle.gt_read.proofs.Steps.{stepped_all}
-use Rattle.gt_read.proofs.Finishing.{back, all_worst}
+use Rattle.gt_read.proofs.Finishing.{all_worst}
 use Rattle.gt_read.proofs.DraftLemmas.{folds_view}
 
 same_key : (k : Key) (a b : Read (key_kind k)) → drafted_plain (key_kind k) a ≡ drafted_plain (key_kind k) b → a ≡ b
 same_key TextKey a b e = e
 same_key NumberKey a b e = e
 
-opened_value : (rows : Rows) (place : ℕ) (o : Option (Fields Read rows)) → finished rows (opened (empty rows) place (option_map (drafted rows) o)) ≡ plain rows (unwrap_or o (meaning rows place []))
-opened_value rows place None = back rows (meaning rows place [])
-opened_value rows place (Some w) = back rows w
+opened_value : (rows : Rows) (place : ℕ) (o : Option (Fields Read rows)) → finished rows (opened (empty rows) place (option_map (drafted rows) o)) ≡ finished rows (drafted rows (unwrap_or o (meaning rows place [])))
+opened_value rows place None = refl
+opened_value rows place (Some w) = refl
 
 opened_worst : (rows : Rows) (place : ℕ) (o : Option (Fields Read rows)) → worst rows (opened (empty rows) place (option_map (drafted rows) o)) ≡ least (bad rows (unwrap_or o (meaning rows place [])))
 opened_worst rows place None = all_worst rows (meaning rows place [])
@@ -31,7 +31,7 @@ opened_worst rows place (Some w) = all_worst rows w
 
 pub record IsEntry (k : Key) (rows : Rows) (r : Run) (key : Read (key_kind k)) (value : Fields Plain rows) (fault : Option IdFault) : Type 0 where
   pub key_is : key ≡ (entry_of k (λ place qs. meaning rows place qs) r).0
-  pub value_is : value ≡ plain rows (entry_of k (λ place qs. meaning rows place qs) r).1
+  pub value_is : value ≡ finished rows (drafted rows (entry_of k (λ place qs. meaning rows place qs) r).1)
   pub fault_is : fault ≡ least (bad rows (entry_of k (λ place qs. meaning rows place qs) r).1)
 
 pub entry_read : {D A : Type 0} (k : Key) (rows : Rows) (view : D → DFields (entry_rows k rows)) (parts : A → Read (key_kind k) × Fields Plain rows) (r : Run) (made : A) (fault : Option IdFault)

@@ -13,7 +13,6 @@ pub mod Maps
 pub mod EntryLemmas
 pub mod Inserting
 pub mod Prefixes
-pub mod BodyLemmas
 pub mod Ascending
 pub mod FileLemmas
 pub mod OneMeaning

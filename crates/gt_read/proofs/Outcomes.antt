@@ -111,6 +111,14 @@ body_drafted : (body : List ℕ) → fold (step ir_rows) (empty ir_rows 0) (piec
 unfolding body_meaning
 body_drafted body = sym (stepped_all ir_rows 0 [] (pieces body body_at))
 
+-- where there is a fault, the value says nothing
+or_fault-same : (a b : Option FormatFault) (f : Option IdFault) (v w : Fields Plain ir_rows) → (f ≡ None → v ≡ w)
+    → or_fault (or_else a (or_else b (length_fault f))) v ≡ or_fault (or_else a (or_else b (length_fault f))) w
+or_fault-same (Some x) b f v w same = refl
+or_fault-same None (Some x) f v w same = refl
+or_fault-same None None (Some x) v w same = refl
+or_fault-same None None None v w same = ap (λ (u : Fields Plain ir_rows). Ok u) (same refl)
+
 body_outcome : (byte : ℕ) (body : List ℕ)
     → body_ends byte (empty ir_rows 0) 8 body ≡ or_fault (or_else (body_fault byte body) (id_fault (body_meaning body))) (plain ir_rows (body_meaning body))
 unfolding body_ends id_fault
@@ -118,7 +126,8 @@ body_outcome byte body =
     let fs = faults ir_rows body body_at in
     let v = body_meaning body in
     ap (draft_ends byte fs) (body_drafted body)
-    ∙ (λ i. or_fault (or_else (first_of fs) (or_else (version_fault byte (version_drafted v i)) (length_fault (all_worst ir_rows v i)))) (back ir_rows v i))
+    ∙ (λ i. or_fault (or_else (first_of fs) (or_else (version_fault byte (version_drafted v i)) (length_fault (all_worst ir_rows v i)))) (finished ir_rows (drafted ir_rows v)))
+    ∙ or_fault-same (first_of fs) (version_fault byte (version_of v)) (least (bad ir_rows v)) (finished ir_rows (drafted ir_rows v)) (plain ir_rows v) (back ir_rows v)
     ∙ ap (λ f. or_fault f (plain ir_rows v)) (sym (or_else-assoc (first_of fs) (version_fault byte (version_of v)) (length_fault (least (bad ir_rows v)))))
 
 whole_outcome : (bytes : List ℕ) → prefix_fault bytes ≡ None → outcome bytes ≡ body_ends (version_byte bytes) (empty ir_rows 0) 8 (body_of bytes)

@@ -10,7 +10,7 @@ use Rattle.gt_read.specs.Kinds.{Packed, put_number, packed_on, packed_within, pa
 use Rattle.gt_read.specs.Faults.{packed_faults, failed_at}
 use Rattle.gt_read.specs.declared.ids.IdFault.{IdFault}
 use Rattle.gt_read.specs.Identifiers.{least, plain_bad}
-use Rattle.gt_read.specs.Drafts.Draft.{added_all}
+use Rattle.gt_read.specs.Drafts.Draft.{lean, added_all}
 
 shorter : (b : ℕ) (bs : List ℕ) (n k : ℕ) → length (b ∷ bs) ≤ suc n → 1 ≤ k → length (drop k (b ∷ bs)) ≤ n
 shorter b bs n k h one = omega (arith, length-drop k (b ∷ bs))
@@ -52,9 +52,7 @@ not_empty (b ∷ bs) e h = absurd cc
 -- a run of the field's numbers, as one more part of the field
 pub packed_added : (old new : List ℤ) (bytes : List ℕ) → new ≡ old ++ packed_signed bytes
     → ◌≡◌ {A = List ℤ × Option IdFault} (new, None) (added_all Signed32 (old, None) (filter_map (from_varint Signed32) (packed bytes).numbers))
-packed_added old new bytes e =
-    ap (λ (l : List ℤ). (l, None)) (e ∙ ap (λ (l : List ℤ). old ++ l) (sym (map-id (packed_signed bytes))))
-    ∙ ap (λ (o : Option IdFault). (old ++ map (λ z. z) (packed_signed bytes), o)) (sym (no_bad (packed_signed bytes)))
+packed_added old new bytes e = by (packed_signed bytes) e
   where
     map-id : (zs : List ℤ) → map (λ z. z) zs ≡ zs
     map-id [] = refl
@@ -63,6 +61,12 @@ packed_added old new bytes e =
     no_bad : (zs : List ℤ) → ◌≡◌ {A = Option IdFault} (least (flat_map (plain_bad Signed32) zs)) None
     no_bad [] = refl
     no_bad (z ∷ zs) = no_bad zs
+
+    by : (zs : List ℤ) → new ≡ old ++ zs → ◌≡◌ {A = List ℤ × Option IdFault} (new, None) (added_all Signed32 (old, None) zs)
+    by [] e = ap (λ (l : List ℤ). lean l None) (e ∙ append-nil old)
+    by (z ∷ zs) e =
+        ap (λ (l : List ℤ). lean l None) (e ∙ ap (λ (l : List ℤ). old ++ l) (sym (map-id (z ∷ zs))))
+        ∙ ap (λ (o : Option IdFault). lean (old ++ map (λ z. z) (z ∷ zs)) o) (sym (no_bad (z ∷ zs)))
 
 -- a varint takes a byte at least
 abbrev pub VarintsAreLong : Type 0

@@ -1,5 +1,5 @@
 -- The meaning of one more record: the draft of the whole list is a step from that of the list before.
-use Rattle.std.proofs.Common.{◌≡◌, ℕ, Bool, true, false, cond, eqb, List, [], ◌∷◌, ◌++◌, map, Option, Some, None, refl, ap, ◌∙◌}
+use Rattle.std.proofs.Common.{◌≡◌, ℕ, Bool, true, false, cond, eqb, leb, List, [], ◌∷◌, ◌++◌, map, Option, Some, None, refl, ap, ◌∙◌}
 use Rattle.std.specs.Prelude.{unwrap_or}
 use Rattle.std.specs.declared.cmp.Ordering.{Ordering}
 use Rattle.std.specs.declared.cmp.Ordering.TheVariants.{Less, Equal, Greater}
@@ -16,10 +16,10 @@ use Rattle.gt_read.specs.declared.ids.IdFault.{IdFault}
 use Rattle.gt_read.specs.Pieces.{Piece, pieces}
 use Rattle.gt_read.specs.Kinds.{Read, value_of, values_of, absent, of_number, Run, run_of}
 use Rattle.gt_read.specs.Meaning.{last, last_value, joined, joined_message, alone, meaning, field_meaning, key_cmp, is_member, trailing, map_of, entry_of}
-use Rattle.gt_read.specs.Identifiers.{plain_bad, plain_of, bad, plain, least}
+use Rattle.gt_read.specs.Identifiers.{plain_bad, plain_of, bad, earlier, least}
 use Rattle.gt_read.proofs.Lists.{filter-push, push_option, filter_map-push, or_new, last-push_option, trailing-push, fold-over}
 use Rattle.gt_read.proofs.Least.{least-append}
-use Rattle.gt_read.specs.Drafts.Draft.{drafted_plain, done, drafted_field, drafted, kept, entered, added, added_all, entered_map, step_field, step}
+use Rattle.gt_read.specs.Drafts.Draft.{drafted_plain, done, drafted_field, drafted, finished, lean, kept, entered, added, added_all, entered_map, step_field, step}
 
 -- ---- a plain field
 
@@ -56,17 +56,30 @@ member_step f read test true xs p = ap (λ t. option_map f (last (filter_map rea
 
 -- ---- a repeated plain field
 
-added_all-step : (k : Kind) (vs ws : List (Read k)) → (map (plain_of k) (vs ++ ws), least (flat_map (plain_bad k) (vs ++ ws))) ≡ added_all k (map (plain_of k) vs, least (flat_map (plain_bad k) vs)) ws
-added_all-step k vs ws =
-    ap (λ (l : List (Plain k)). (l, least (flat_map (plain_bad k) (vs ++ ws)))) (map-append (plain_of k) vs ws)
-    ∙ ap (λ (o : Option IdFault). (map (plain_of k) vs ++ map (plain_of k) ws, o)) (ap least (flat_map-append (plain_bad k) vs ws) ∙ least-append (flat_map (plain_bad k) vs) (flat_map (plain_bad k) ws))
+-- what is kept of values and of more behind them
+lean-append : {A : Type 0} (xs ys : List A) (a b : Option IdFault) → lean (xs ++ ys) (earlier a b) ≡ lean ((lean xs a).0 ++ ys) (earlier (lean xs a).1 b)
+lean-append xs ys None b = refl
+lean-append xs ys (Some f) None = refl
+lean-append {A} xs ys (Some f) (Some g) = by (leb f.place g.place)
+  where
+    by : (t : Bool) → lean (xs ++ ys) (cond t (Some f) (Some g)) ≡ lean ys (cond t (Some f) (Some g))
+    by true = refl
+    by false = refl
+
+added_all-step : (k : Kind) (vs ws : List (Read k)) → lean (map (plain_of k) (vs ++ ws)) (least (flat_map (plain_bad k) (vs ++ ws))) ≡ added_all k (lean (map (plain_of k) vs) (least (flat_map (plain_bad k) vs))) ws
+added_all-step k vs [] = ap (λ (l : List (Read k)). lean (map (plain_of k) l) (least (flat_map (plain_bad k) l))) (append-nil vs)
+added_all-step k vs (w ∷ ws) =
+    let all = w ∷ ws in
+    ap (λ (l : List (Plain k)). lean l (least (flat_map (plain_bad k) (vs ++ all)))) (map-append (plain_of k) vs all)
+    ∙ ap (λ (o : Option IdFault). lean (map (plain_of k) vs ++ map (plain_of k) all) o) (ap least (flat_map-append (plain_bad k) vs all) ∙ least-append (flat_map (plain_bad k) vs) (flat_map (plain_bad k) all))
+    ∙ lean-append (map (plain_of k) vs) (map (plain_of k) all) (least (flat_map (plain_bad k) vs)) (least (flat_map (plain_bad k) all))
 
 repeated_step : (k : Kind) (b : Bool) (xs : List Piece) (p : Piece)
-    → (map (plain_of k) (flat_map (values_of k) (cond b (xs ++ p ∷ []) xs)), least (flat_map (plain_bad k) (flat_map (values_of k) (cond b (xs ++ p ∷ []) xs))))
-    ≡ cond b (added_all k (map (plain_of k) (flat_map (values_of k) xs), least (flat_map (plain_bad k) (flat_map (values_of k) xs))) (values_of k p)) (map (plain_of k) (flat_map (values_of k) xs), least (flat_map (plain_bad k) (flat_map (values_of k) xs)))
+    → lean (map (plain_of k) (flat_map (values_of k) (cond b (xs ++ p ∷ []) xs))) (least (flat_map (plain_bad k) (flat_map (values_of k) (cond b (xs ++ p ∷ []) xs))))
+    ≡ cond b (added_all k (lean (map (plain_of k) (flat_map (values_of k) xs)) (least (flat_map (plain_bad k) (flat_map (values_of k) xs)))) (values_of k p)) (lean (map (plain_of k) (flat_map (values_of k) xs)) (least (flat_map (plain_bad k) (flat_map (values_of k) xs))))
 repeated_step k false xs p = refl
 repeated_step k true xs p =
-    ap (λ (vs : List (Read k)). (map (plain_of k) vs, least (flat_map (plain_bad k) vs))) (flat_map-append (values_of k) xs (p ∷ []) ∙ ap (λ (ws : List (Read k)). flat_map (values_of k) xs ++ ws) (append-nil (values_of k p)))
+    ap (λ (vs : List (Read k)). lean (map (plain_of k) vs) (least (flat_map (plain_bad k) vs))) (flat_map-append (values_of k) xs (p ∷ []) ∙ ap (λ (ws : List (Read k)). flat_map (values_of k) xs ++ ws) (append-nil (values_of k p)))
     ∙ added_all-step k (flat_map (values_of k) xs) (values_of k p)
 
 -- ---- messages
@@ -106,19 +119,20 @@ member_message_step M view next law test true xs p = ap (λ t. option_map view (
 -- ---- repeated messages
 
 added_step : {A B C : Type 0} (M : A → B) (f : B → C) (g : B → List IdFault) (rs : List A) (o : Option A)
-    → (map f (map M (push_option rs o)), least (flat_map g (map M (push_option rs o)))) ≡ added (map f (map M rs), least (flat_map g (map M rs))) (option_map (λ r. (f (M r), least (g (M r)))) o)
+    → lean (map f (map M (push_option rs o))) (least (flat_map g (map M (push_option rs o)))) ≡ added (lean (map f (map M rs)) (least (flat_map g (map M rs)))) (option_map (λ r. (f (M r), least (g (M r)))) o)
 added_step M f g rs None = refl
 added_step {B = B} {C = C} M f g rs (Some r) =
-    ap (λ (ws : List B). (map f ws, least (flat_map g ws))) (map-append M rs (r ∷ []))
-    ∙ ap (λ (cs : List C). (cs, least (flat_map g (map M rs ++ M r ∷ [])))) (map-append f (map M rs) (M r ∷ []))
-    ∙ ap (λ (o : Option IdFault). (map f (map M rs) ++ f (M r) ∷ [], o)) (ap least (flat_map-append g (map M rs) (M r ∷ []) ∙ ap (λ (fs : List IdFault). flat_map g (map M rs) ++ fs) (append-nil (g (M r)))) ∙ least-append (flat_map g (map M rs)) (g (M r)))
+    ap (λ (ws : List B). lean (map f ws) (least (flat_map g ws))) (map-append M rs (r ∷ []))
+    ∙ ap (λ (cs : List C). lean cs (least (flat_map g (map M rs ++ M r ∷ [])))) (map-append f (map M rs) (M r ∷ []))
+    ∙ ap (λ (o : Option IdFault). lean (map f (map M rs) ++ f (M r) ∷ []) o) (ap least (flat_map-append g (map M rs) (M r ∷ []) ∙ ap (λ (fs : List IdFault). flat_map g (map M rs) ++ fs) (append-nil (g (M r)))) ∙ least-append (flat_map g (map M rs)) (g (M r)))
+    ∙ lean-append (map f (map M rs)) (f (M r) ∷ []) (least (flat_map g (map M rs))) (least (g (M r)))
 
 messages_step : {A B C : Type 0} (read : Piece → Option A) (M : A → B) (f : B → C) (g : B → List IdFault) (b : Bool) (xs : List Piece) (p : Piece)
-    → (map f (map M (filter_map read (cond b (xs ++ p ∷ []) xs))), least (flat_map g (map M (filter_map read (cond b (xs ++ p ∷ []) xs)))))
-    ≡ cond b (added (map f (map M (filter_map read xs)), least (flat_map g (map M (filter_map read xs)))) (option_map (λ r. (f (M r), least (g (M r)))) (read p))) (map f (map M (filter_map read xs)), least (flat_map g (map M (filter_map read xs))))
+    → lean (map f (map M (filter_map read (cond b (xs ++ p ∷ []) xs)))) (least (flat_map g (map M (filter_map read (cond b (xs ++ p ∷ []) xs)))))
+    ≡ cond b (added (lean (map f (map M (filter_map read xs))) (least (flat_map g (map M (filter_map read xs))))) (option_map (λ r. (f (M r), least (g (M r)))) (read p))) (lean (map f (map M (filter_map read xs))) (least (flat_map g (map M (filter_map read xs)))))
 messages_step read M f g false xs p = refl
 messages_step {A = A} read M f g true xs p =
-    ap (λ (rs : List A). (map f (map M rs), least (flat_map g (map M rs)))) (filter_map-push read xs p) ∙ added_step M f g (filter_map read xs) (read p)
+    ap (λ (rs : List A). lean (map f (map M rs)) (least (flat_map g (map M rs)))) (filter_map-push read xs p) ∙ added_step M f g (filter_map read xs) (read p)
 
 -- ---- maps
 
@@ -177,7 +191,7 @@ mutual
       ∙ message_step (λ place qs. meaning rows place qs) (λ w. drafted rows w) (λ e q. step rows e q) (λ place qs q. stepped rows place qs q) (is_of number p) (of_number number ps) p
   stepped_field (messages number rows) first ps p =
       ap (λ xs. drafted_field (messages number rows) (map (alone (λ place qs. meaning rows place qs)) (filter_map run_of xs))) (filter-push (is_of number) ps p)
-      ∙ messages_step run_of (alone (λ place qs. meaning rows place qs)) (λ w. plain rows w) (λ w. bad rows w) (is_of number p) (of_number number ps) p
+      ∙ messages_step run_of (alone (λ place qs. meaning rows place qs)) (λ w. finished rows (drafted rows w)) (λ w. bad rows w) (is_of number p) (of_number number ps) p
   stepped_field (member members number k) first ps p =
       ap (λ xs. drafted_field (member members number k) (last_value k (trailing (is_of number) xs))) (filter-push (is_member members) ps p)
       ∙ member_step (drafted_plain k) (value_of k) (is_of number) (is_member members p) (filter (is_member members) ps) p

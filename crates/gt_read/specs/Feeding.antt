@@ -5,6 +5,7 @@ use Rattle.std.specs.Option.{option_map}
 use Rattle.gr_base.specs.declared.end.End.{End}
 use Rattle.gr_base.specs.declared.end.End.TheVariants as ends
 use Rattle.gt_model.specs.Schema.{ir_rows}
+use Rattle.gt_model.specs.Typed.{AreBytes}
 use Rattle.gt_read.specs.declared.fault.FormatFault.{FormatFault}
 use Rattle.gt_read.specs.declared.fault.FormatFault.TheVariants.{UuidLength, Prefix, Wire, Utf8, Version}
 use Rattle.gt_read.specs.declared.ids.IdFault.{IdFault}
@@ -81,6 +82,7 @@ abbrev pub IsEarly : End FormatFault → Type 0
 IsEarly (ends.Fault fault) = EarlyFault fault
 IsEarly ends.Memory = Unit {0}
 
--- what a taker took: whatever follows, the file comes to the same
-abbrev pub TookPiece : Feeder → List ℕ → Feeder → Type 0
-TookPiece old piece new = (rest : List ℕ) → ends_as new rest ≡ ends_as old (piece ++ rest)
+-- what a taker took is bytes, and whatever follows, the file comes to the same
+pub record TookPiece (old : Feeder) (piece : List ℕ) (new : Feeder) : Type 0 where
+  pub same : (rest : List ℕ) → ends_as new rest ≡ ends_as old (piece ++ rest)
+  pub bytes : AreBytes piece

@@ -1,8 +1,8 @@
 //! Messages in messages.
 
-ghost use Rattle.std.specs.Prelude.{◌≡◌, [], ◌∷◌, ◌++◌, Option, None, OnOk, IfOk};
+ghost use Rattle.std.specs.Prelude.{◌≡◌, [], ◌∷◌, ◌++◌, Option, Some, None, OnOk, IfOk};
 ghost use Rattle.gt_model.specs.Schema.{Id};
-ghost use Rattle.gt_read.specs.Drafts.Draft.{added_all};
+ghost use Rattle.gt_read.specs.Drafts.Draft.{added, added_all};
 ghost use Rattle.gt_read.specs.Faults.{message_faults, in_run};
 ghost use Rattle.gt_read.specs.Identifiers.{earlier};
 ghost use Rattle.gt_read.specs.Kinds.{values_of, run_of};
@@ -18,7 +18,8 @@ use std::alloc::{AllocError, Global};
 use std::mem;
 use uuid::Uuid;
 
-/// Repeated messages that are read, and the first identifier in them that is at fault.
+/// Repeated messages that are read, or the first identifier in them that is at fault. From a fault on
+/// none is kept: the file means nothing.
 #[derive(Drop)]
 pub struct Children<T> {
     pub items: Seq<T>,
@@ -36,12 +37,14 @@ impl<T: Drop> Children<T> {
         }
     }
 
-    pub fn push(&mut self, item: T, fault: Option<IdFault>) -> Result<(), AllocError>
-        ensures items { OnOk result (self.new.items ≡ self.old.items ++ item ∷ []) }
-        ensures fault { OnOk result (self.new.fault ≡ earlier self.old.fault fault) }
+    pub fn push(&mut self, alloc: Global, item: T, fault: Option<IdFault>) -> Result<(), AllocError>
+        ensures { OnOk result ((self.new.items, self.new.fault) ≡ added (self.old.items, self.old.fault) (Some (item, fault))) }
     {
-        self.items.push(item)?;
         self.fault = earlier(self.fault, fault);
+        match self.fault {
+            None => self.items.push(item)?,
+            Some(_) => self.items = Seq::new(alloc),
+        }
         Ok(())
     }
 }
@@ -60,14 +63,14 @@ pub fn take_child<M: Message>(
         Carried::Fixed => Ok(()),
         Carried::Bytes(run) => {
             let (child, fault) = read_message::<M>(alloc, part.place, run)?;
-            children.push(child, fault)?;
+            children.push(alloc, child, fault)?;
             Ok(())
         }
     }
 }
 
 /// Takes a record of a repeated identifier.
-pub fn take_ids(ids: &mut Children<Uuid>, part: &Piece<'_>) -> Result<(), AllocError>
+pub fn take_ids(alloc: Global, ids: &mut Children<Uuid>, part: &Piece<'_>) -> Result<(), AllocError>
     ensures { OnOk result ((ids.new.items, ids.new.fault) ≡ added_all Id (ids.old.items, ids.old.fault) (values_of Id (piece part.now))) }
 {
     match &part.carried {
@@ -75,7 +78,7 @@ pub fn take_ids(ids: &mut Children<Uuid>, part: &Piece<'_>) -> Result<(), AllocE
         Carried::Fixed => Ok(()),
         Carried::Bytes(run) => {
             let id = Identifier::read(part.place, run.bytes);
-            ids.push(id.id, id.fault())?;
+            ids.push(alloc, id.id, id.fault())?;
             Ok(())
         }
     }

@@ -136,7 +136,7 @@ impl Message for CfgDraft {
                 Ok(())
             }
             3 => {
-                take_ids(&mut self.vertices, part)?;
+                take_ids(alloc, &mut self.vertices, part)?;
                 Ok(())
             }
             _ => Ok(()),

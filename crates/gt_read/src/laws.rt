@@ -1,11 +1,12 @@
 //! Laws of the definitions that contracts cite: each function is its contract.
 
-ghost use Rattle.std.specs.Prelude.{◌≡◌, ◌+◌, ◌<◌, ◌≤◌, ℕ, List, [], ◌∷◌, ◌++◌, length, map, Option, Some, None};
+ghost use Rattle.std.specs.Prelude.{◌≡◌, ◌+◌, ◌<◌, ◌≤◌, ℕ, List, [], ◌∷◌, ◌++◌, length, map, Option, Some, None, Ok, Err};
 ghost use Rattle.std.specs.BTreeMap.{is_at};
 ghost use Rattle.std.specs.List.{AllByRecursion};
 ghost use Rattle.std.specs.List.Sorted.{IsStrictlySortedBy};
 ghost use Rattle.std.specs.Map.{lookup};
 ghost use Rattle.std.specs.Ordering.{nat_cmp};
+ghost use Rattle.gr_base.specs.declared.end.End.TheVariants as ends;
 ghost use Rattle.pb_wire.specs.declared.fault.WireFault.{WireFault};
 ghost use Rattle.pb_wire.specs.declared.fault.WireReason.{WireReason};
 ghost use Rattle.pb_wire.specs.declared.records.Record.{Record};
@@ -17,12 +18,14 @@ ghost use Rattle.gt_model.specs.declared.ir.Ir.{Ir};
 ghost use Rattle.gt_model.specs.Ordered.{ordered};
 ghost use Rattle.gt_model.specs.Schema.{Key, key_kind, Rows, ir_rows};
 ghost use Rattle.gt_model.specs.Typed.{AreBytes, typed};
+ghost use Rattle.gt_model.specs.Views.{ir_value};
 ghost use Rattle.gt_read.specs.declared.fault.FormatFault.{FormatFault};
 ghost use Rattle.gt_read.specs.Faults.{faults, first_of};
 ghost use Rattle.gt_read.specs.File.{file, format_fault};
 ghost use Rattle.gt_read.specs.Joining.{Entry, HasNone, ir_join};
 ghost use Rattle.gt_read.specs.Kinds.{Read, packed, put_number};
 ghost use Rattle.gt_read.specs.Meaning.{key_cmp, map_of, meaning};
+ghost use Rattle.gt_read.specs.Outcome.{outcome};
 ghost use Rattle.gt_read.specs.Places.{place_of};
 ghost use Rattle.gt_read.specs.Pieces.{Piece, piece_of, pieces, broken, walk, put_first};
 
@@ -69,6 +72,12 @@ pub fn a_file_has_no_fault()
 /// Bytes without a fault mean an IR.
 pub fn no_fault_is_a_file()
     ensures { (bytes : List ℕ) → format_fault bytes ≡ None → (ir : Ir) × file bytes ir }
+{}
+
+/// What bytes come to is the IR that they mean, or their first fault.
+pub fn an_outcome_is_a_file()
+    ensures meant { (bytes : List ℕ) (ir : Ir) → outcome bytes ≡ Ok (ir_value ir) → file bytes ir }
+    ensures fault { (bytes : List ℕ) (fault : FormatFault) → outcome bytes ≡ Err (ends.Fault fault) → format_fault bytes ≡ Some fault }
 {}
 
 /// An IR that bytes mean has values of its types, its maps in order, and a version of one byte.

@@ -15,6 +15,8 @@ Each job reads the files that its words name and writes one. The name - is stand
   layout in=FILE out=FILE [patch=FILE] [module=N] [plain=..] [isa=N]
       write the default layout of a module's program, with its patches: where its byte intervals and
       the stack lie
+  print in=FILE out=FILE [patch=FILE] [module=N] [plain=..] [isa=N]
+      write a module, with its patches, as assembly text (docs/ASSEMBLY.md)
   link in=FILE out=IMAGE [patch=FILE] [layout=FILE] [module=N] [plain=..] [isa=N]
       link a module's program, with its patches, to a bare image, under a layout or the default one
   run in=IMAGE out=FILE [input=FILE] [steps=N]

@@ -4,3 +4,4 @@ pub mod Binding
 pub mod LineWords
 pub mod LayoutTexts
 pub mod Programs
+pub mod Printed

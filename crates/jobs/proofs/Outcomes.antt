@@ -13,7 +13,7 @@ use Rattle.num_run.specs.Run.{num_run}
 use Rattle.command_words.specs.declared.role.Role.{Role}
 use Rattle.command_words.specs.declared.role.Role.TheVariants.{In, Input}
 use Rattle.command_words.specs.declared.table.Job.{Job}
-use Rattle.command_words.specs.declared.table.Job.TheVariants.{Recode, Check, Rewrite, Layout, Link, Run, Sim, Demo}
+use Rattle.command_words.specs.declared.table.Job.TheVariants.{Recode, Check, Rewrite, Layout, Print, Link, Run, Sim, Demo}
 use Rattle.jobs.specs.Inputs.{AllHeld, Contents, HoldBytes, bytes_in, contents_of, inputs_of}
 use Rattle.jobs.specs.Outcome.{Pass, Outcome, Verdict, makes_as}
 use Rattle.command_words.specs.Picked.{Picked, asked, picked, settings_of}
@@ -39,6 +39,7 @@ use Rattle.module_program.specs.Graphs.{program_in}
 use Rattle.jobs.specs.Modules.{check_made, program_module}
 use Rattle.jobs.specs.Programs.{free_program, patches_in, ModuleProgram, PatchedProgram, Programs}
 use Rattle.jobs.specs.Linking.{laid_out, link_made, laid, laid_text, LaysIr, LinksIr, LinksProgram}
+use Rattle.jobs.specs.Printing.{text_free, text_written, PrintsIr, PrintsModule, PrintsPatched}
 use Rattle.jobs.specs.Rewriting.{patches_of, repaired_free, Repairs, RepairsModule, RewritesIr}
 use Rattle.jobs.specs.Sim.{sim_made, SimsIr, SimsProgram}
 use Rattle.jobs.proofs.Binding.{exactly_one, exactly_some}
@@ -111,6 +112,14 @@ module _ (meaning : (bytes : List ℕ) (a b : Ir) → file bytes a → file byte
   rewrites_one asked contents ir =
       chain_one (Repairs asked (contents roles.Patch) ir) (λ new. just (written (canonical new))) (repairs_one asked (contents roles.Patch) ir) (λ new. just_one (written (canonical new)))
 
+  prints_module_one : (ir : Ir) (text : Option (List ℕ)) (m : Module) → GivesOne (PrintsModule ir text m)
+  prints_module_one ir None m = exactly_one (Ok (text_written m))
+  prints_module_one ir (Some text) m = chain_one (patches_in text m) (λ p. exactly (text_free ir m p)) (patches text m) (λ p. exactly_one (text_free ir m p))
+
+  prints_one : (asked : Picked) (contents : Contents) (ir : Ir) → GivesOne (PrintsIr asked contents ir)
+  prints_one asked contents ir =
+      chain_one (exactly (program_module asked ir)) (λ m. PrintsModule ir (contents roles.Patch) m) (exactly_one (program_module asked ir)) (λ m. prints_module_one ir (contents roles.Patch) m)
+
   lays_one : (asked : Picked) (contents : Contents) (ir : Ir) → GivesOne (LaysIr asked contents ir)
   lays_one asked contents ir =
       chain_one (Programs asked (contents roles.Patch) ir) (λ g. just (laid_out g)) (programs_one asked (contents roles.Patch) ir) (λ g. just_one (laid_out g))
@@ -138,6 +147,8 @@ module _ (meaning : (bytes : List ℕ) (a b : Ir) → file bytes a → file byte
       chain_one (meant (bytes_in contents In)) (λ ir. RewritesIr asked contents ir) (meant_one meaning (bytes_in contents In)) (λ ir. rewrites_one asked contents ir)
   makes_one Layout asked passes contents =
       chain_one (meant (bytes_in contents In)) (λ ir. LaysIr asked contents ir) (meant_one meaning (bytes_in contents In)) (λ ir. lays_one asked contents ir)
+  makes_one Print asked passes contents =
+      chain_one (meant (bytes_in contents In)) (λ ir. PrintsIr asked contents ir) (meant_one meaning (bytes_in contents In)) (λ ir. prints_one asked contents ir)
   makes_one Link asked passes contents =
       chain_one (meant (bytes_in contents In)) (λ ir. LinksIr asked contents ir) (meant_one meaning (bytes_in contents In)) (λ ir. links_one asked contents ir)
   makes_one Run asked passes contents =
@@ -184,6 +195,14 @@ module _ (found : (bytes : List ℕ) → format_fault bytes ≡ None → (ir : I
   rewrites_some asked contents ir =
       chain_some (Repairs asked (contents roles.Patch) ir) (λ new. just (written (canonical new))) (repairs_some asked (contents roles.Patch) ir) (λ new h. just_some (written (canonical new)))
 
+  prints_module_some : (ir : Ir) (text : Option (List ℕ)) (m : Module) → GivesSome (PrintsModule ir text m)
+  prints_module_some ir None m = exactly_some (Ok (text_written m))
+  prints_module_some ir (Some text) m = chain_some (patches_in text m) (λ p. exactly (text_free ir m p)) (patches text m) (λ p h. exactly_some (text_free ir m p))
+
+  prints_some : (asked : Picked) (contents : Contents) (ir : Ir) → GivesSome (PrintsIr asked contents ir)
+  prints_some asked contents ir =
+      chain_some (exactly (program_module asked ir)) (λ m. PrintsModule ir (contents roles.Patch) m) (exactly_some (program_module asked ir)) (λ m h. prints_module_some ir (contents roles.Patch) m)
+
   lays_some : (asked : Picked) (contents : Contents) (ir : Ir) → GivesSome (LaysIr asked contents ir)
   lays_some asked contents ir =
       chain_some (Programs asked (contents roles.Patch) ir) (λ g. just (laid_out g)) (programs_some asked (contents roles.Patch) ir) (λ g h. just_some (laid_out g))
@@ -212,6 +231,8 @@ module _ (found : (bytes : List ℕ) → format_fault bytes ≡ None → (ir : I
       chain_some (meant (bytes_in contents In)) (λ ir. RewritesIr asked contents ir) (meant_some found excluded (bytes_in contents In)) (λ ir h. rewrites_some asked contents ir)
   makes_some Layout asked passes contents are =
       chain_some (meant (bytes_in contents In)) (λ ir. LaysIr asked contents ir) (meant_some found excluded (bytes_in contents In)) (λ ir h. lays_some asked contents ir)
+  makes_some Print asked passes contents are =
+      chain_some (meant (bytes_in contents In)) (λ ir. PrintsIr asked contents ir) (meant_some found excluded (bytes_in contents In)) (λ ir h. prints_some asked contents ir)
   makes_some Link asked passes contents are =
       chain_some (meant (bytes_in contents In)) (λ ir. LinksIr asked contents ir) (meant_some found excluded (bytes_in contents In)) (λ ir h. links_some asked contents ir)
   makes_some Run asked passes contents are =

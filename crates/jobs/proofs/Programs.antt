@@ -35,7 +35,7 @@ pub bind_gave : {A B F : Type 0} (known : Result A F) (f : A → Result B F) (y 
 bind_gave (Ok x) f y e = (x, refl, e)
 bind_gave (Err r) f y e = absurd cc
 
-unless_gave : {F T : Type 0} (refusal : F → Refusal) (fault : Option F) (value made : T) → unless refusal fault value ≡ Ok made → (fault ≡ None) × (value ≡ made)
+pub unless_gave : {F T : Type 0} (refusal : F → Refusal) (fault : Option F) (value made : T) → unless refusal fault value ≡ Ok made → (fault ≡ None) × (value ≡ made)
 unless_gave refusal None value made e = (refl, cc)
 unless_gave refusal (Some f) value made e = absurd cc
 

@@ -6,6 +6,7 @@ pub mod Run
 pub mod Modules
 pub mod Programs
 pub mod Rewriting
+pub mod Printing
 pub mod Linking
 pub mod Simulated
 pub mod Sim

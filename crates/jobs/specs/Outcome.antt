@@ -3,7 +3,7 @@ use Rattle.std.specs.Prelude.{ℕ, List, Option, Some, None, Result}
 use Rattle.gr_base.specs.Desk.{Files}
 use Rattle.command_words.specs.declared.role.TheConstants.{ROLES}
 use Rattle.command_words.specs.declared.table.Job.{Job}
-use Rattle.command_words.specs.declared.table.Job.TheVariants.{Recode, Check, Rewrite, Layout, Link, Run, Sim, Demo}
+use Rattle.command_words.specs.declared.table.Job.TheVariants.{Recode, Check, Rewrite, Layout, Print, Link, Run, Sim, Demo}
 use Rattle.jobs.specs.declared.verdict.Finished.{Finished}
 use Rattle.jobs.specs.declared.verdict.Refusal.{Refusal}
 use Rattle.jobs.specs.Inputs.{Contents, AllHeld, files_as, contents_of}
@@ -13,6 +13,7 @@ use Rattle.jobs.specs.Recode.{Recodes, ReadsBack}
 use Rattle.jobs.specs.Run.{Runs}
 use Rattle.jobs.specs.Modules.{Checks}
 use Rattle.jobs.specs.Linking.{Lays, Links}
+use Rattle.jobs.specs.Printing.{Prints}
 use Rattle.jobs.specs.Rewriting.{Rewrites, RewritesFile}
 use Rattle.jobs.specs.Simulated.{SimulatesFile}
 use Rattle.jobs.specs.Sim.{Sims}
@@ -32,6 +33,7 @@ makes_as Recode asked passes contents = Recodes contents
 makes_as Check asked passes contents = Checks asked contents
 makes_as Rewrite asked passes contents = Rewrites asked contents
 makes_as Layout asked passes contents = Lays asked contents
+makes_as Print asked passes contents = Prints asked contents
 makes_as Link asked passes contents = Links asked contents
 makes_as Run asked passes contents = Runs asked.settings contents
 makes_as Sim asked passes contents = Sims asked contents

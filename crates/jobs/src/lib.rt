@@ -10,6 +10,7 @@ mod layout;
 mod link;
 mod making;
 mod modules;
+mod printing;
 mod program;
 mod recode;
 mod rewriting;

@@ -9,6 +9,7 @@ use crate::contents::Contents;
 use crate::demo::demo;
 use crate::layout::layout;
 use crate::link::link;
+use crate::printing::print;
 use crate::recode::recode;
 use crate::rewriting::rewrite;
 use crate::run::run;
@@ -33,6 +34,7 @@ pub fn make(
         Job::Check => check(alloc, asked, contents),
         Job::Rewrite => rewrite(alloc, asked, contents),
         Job::Layout => layout(alloc, asked, contents),
+        Job::Print => print(alloc, asked, contents),
         Job::Link => link(alloc, asked, contents),
         Job::Run => run(alloc, asked.settings, contents),
         Job::Sim => sim(alloc, asked, contents),

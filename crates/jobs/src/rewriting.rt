@@ -52,7 +52,11 @@ fn patches_of(
 }
 
 /// The IR with patches in its module, where no identifier that they derive is taken.
-fn repaired_free(alloc: Global, loaded: &Loaded, patches: &PatchTable) -> Result<Ir, End<Refusal>>
+pub fn repaired_free(
+    alloc: Global,
+    loaded: &Loaded,
+    patches: &PatchTable,
+) -> Result<Ir, End<Refusal>>
     requires live { loaded.now.id.index < length loaded.now.graph.modules }
     requires formed { formed_at loaded.now.graph loaded.now.id }
     requires placed { let m = plain_module loaded.now.graph (module_at loaded.now.graph loaded.now.id) in bad_places (loaded_intervals m) m.aux ≡ [] }

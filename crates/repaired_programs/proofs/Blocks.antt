@@ -7,6 +7,7 @@ use Rattle.std.specs.List.{AllByRecursion as Every, IsDistinct, flat_map, list_a
 use Rattle.std.specs.Str.{bytes_eq}
 use Rattle.std.proofs.lemmas.Bool.{both_ways, eqb-true, false_from_ne_true, not-false}
 use Rattle.std.proofs.lemmas.List.{map-append}
+use Rattle.std.proofs.lemmas.Map.Made.{AllPairs-from_IsDistinct}
 use Rattle.std.proofs.lemmas.Slice.Eq.{bytes_eq-Decides}
 use Rattle.block_parts.specs.declared.parts.Part.{Part}
 use Rattle.block_parts.specs.declared.words.PatchedWord.{PatchedWord}
@@ -74,6 +75,16 @@ distinct_blocks n u apart =
     let same : times id (block_ids (program n u no_patches)) ≡ times id (map id_of (blocks_of (loaded_intervals n))) =
     ap (λ (l : List Stretch). times id (flat_map ids_in l)) (section_intervals n u (loaded_sections n)) ∙ times_of n u id (loaded_intervals n) in
     omega (arith, most, same))
+
+pub apart_blocks : (n : Module) (u : Tables) → AllPairs (λ (a b : List ℕ). a ≢ b) (map id_of (blocks_of (loaded_intervals n))) → AllPairs (λ (a b : List ℕ). a ≢ b) (block_ids (program n u no_patches))
+apart_blocks n u apart =
+    AllPairs-from_IsDistinct bytes_eq-Decides (block_ids (program n u no_patches))
+    (distinct_of_once (block_ids (program n u no_patches))
+    (λ id.
+    let most = once (map id_of (blocks_of (loaded_intervals n))) apart id in
+    let same : times id (block_ids (program n u no_patches)) ≡ times id (map id_of (blocks_of (loaded_intervals n))) =
+    ap (λ (l : List Stretch). times id (flat_map ids_in l)) (section_intervals n u (loaded_sections n)) ∙ times_of n u id (loaded_intervals n) in
+    omega (arith, most, same)))
 
 -- ---- each is found
 

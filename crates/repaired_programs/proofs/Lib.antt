@@ -37,3 +37,7 @@ pub mod Sources
 pub mod Walked
 pub mod Stretched
 pub mod AllWords
+pub mod Covered
+pub mod Fillings
+pub mod Calm
+pub mod Rising

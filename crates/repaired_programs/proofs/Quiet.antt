@@ -52,7 +52,7 @@ BothOr R None (Some y) = ⊥
 BothOr R (Some x) None = ⊥
 BothOr R (Some x) (Some y) = R x y
 
-zip_option : {X : Type 0} (R : X → X → Type 0) (a b : Option X) (xs ys : List X) → BothOr R a b → AllZip R xs ys → AllZip R (cons_option a xs) (cons_option b ys)
+pub zip_option : {X : Type 0} (R : X → X → Type 0) (a b : Option X) (xs ys : List X) → BothOr R a b → AllZip R xs ys → AllZip R (cons_option a xs) (cons_option b ys)
 zip_option R None None xs ys h k = k
 zip_option R None (Some y) xs ys h k = absurd h
 zip_option R (Some x) None xs ys h k = absurd h
@@ -102,7 +102,7 @@ module _ (m : Module) (t : Tables) (p : PatchTable) (l : Layout) where
   filling_one size (values.AddrAddr scale offset (Some a) (Some b)) h =
       form_one (old_target n no_patches a offset) (old_target m p a offset) (old_target n no_patches b (pos 0)) (old_target m p b (pos 0)) (form_of size scale) h.0 h.1
 
-  at_one : (at : ℕ) (a b : Option Filling) → BothOr (FillOne l new g) a b → BothOr (IsOneFilling l new g) (option_map (λ f. (at, f)) a) (option_map (λ f. (at, f)) b)
+  pub at_one : (at : ℕ) (a b : Option Filling) → BothOr (FillOne l new g) a b → BothOr (IsOneFilling l new g) (option_map (λ f. (at, f)) a) (option_map (λ f. (at, f)) b)
   at_one at None None h = tt
   at_one at None (Some y) h = absurd h
   at_one at (Some x) None h = absurd h

@@ -22,7 +22,6 @@ use Rattle.repaired_programs.specs.Named.{IsOneWord, piece_words, words_of}
 use Rattle.repaired_programs.specs.Programs.{repaired_program}
 use Rattle.rewrite.specs.Blocks.{part_block}
 use Rattle.rewrite.specs.Exprs.{brought_in, moved_expr, news_of}
-use Rattle.rewrite.specs.Offsets.{old_size}
 use Rattle.rewrite.specs.Places.{moved_tables}
 use Rattle.rewrite.specs.Rewritten.{has_words, new_interval, stretched}
 use Rattle.sym_expr.specs.declared.layout.Layout.{Layout}
@@ -48,7 +47,6 @@ use Rattle.repaired_programs.proofs.Bare.{AreNamed}
 use Rattle.repaired_programs.proofs.Becomes.{block_at, body_at, count, cut_count, IsFit, length-own_words, whole_code}
 use Rattle.repaired_programs.proofs.Bits.{words_one}
 use Rattle.repaired_programs.proofs.Found.{at_place, below, by_found, find_append, none_from}
-use Rattle.repaired_programs.proofs.Known.{IsCountedPiece}
 use Rattle.repaired_programs.proofs.Lists.{every_filter, every_flat, every_map, every_weaker}
 use Rattle.repaired_programs.proofs.Moved.{all_words_have, HaveExprs, or_none}
 use Rattle.repaired_programs.proofs.Points.{counted_first}
@@ -60,7 +58,7 @@ use Rattle.repaired_programs.proofs.Spots.{Behind}
 use Rattle.repaired_programs.proofs.Sources.{AllValues, NamesOne, sources, words_there}
 use Rattle.repaired_programs.proofs.Spots.{length-bytes_at, spots}
 use Rattle.repaired_programs.proofs.Stands.{IsKnown, new_order}
-use Rattle.repaired_programs.proofs.Walked.{all_over, brings_of, end_at, IsRoom, IsWalked, lowest, place_at, room_of, start, walk_on}
+use Rattle.repaired_programs.proofs.Walked.{all_over, brings_of, end_at, IsRoom, IsWalked, lowest, place_at, room_of, size_counted, size_kept, start, walk_on}
 use Rattle.repaired_programs.proofs.Zipped.{zip_append}
 
 -- ---- words of pieces don't ask where gaps are
@@ -195,26 +193,13 @@ module _ (m : Module) (t : Tables) (p : PatchTable) (l : Layout) (i : Interval) 
       let d : Block = record { offset = place_at m t p i end at b; body = bodies.Data uuid size } in
       subst (λ vs. AllZip Names vs (before (end_of b) bs)) (sym (gap_words (bytes_at j a (d.offset - a)) (d.offset - a == 0) (DataPiece (data_block n u no_patches j d) ∷ pieces n u no_patches j (end_of d) more) ∙ words_any n u j (end_of d) 0 more)) rest
 
-  body_size : (offset : ℕ) (body : Body) → let b : Block = record { offset = offset; body = body } in IsFit m p i b → old_size (piece m t p i b) ≡ size_of b
-  body_size offset bodies.Bare fit = absurd (both_ways true fit.bodied refl)
-  body_size offset (bodies.Code uuid size decode_mode) fit =
-      let words = length-own_words m p i offset (size / 4) in
-      let whole_size : size % 4 ≡ 0 = whole_code (code_at_offset offset uuid size decode_mode) fit.straight refl in
-      omega (arith, words, whole_size)
-  body_size offset (bodies.Data uuid size) fit = length-bytes_at i offset size
-
-  body_counted : (offset : ℕ) (body : Body) → let b : Block = record { offset = offset; body = body } in IsFit m p i b → IsCountedPiece (piece m t p i b)
-  body_counted offset bodies.Bare fit = absurd (both_ways true fit.bodied refl)
-  body_counted offset (bodies.Code uuid size decode_mode) fit = fit.counted refl
-  body_counted offset (bodies.Data uuid size) fit = tt
-
   blocks_words : (end at a : ℕ) (bs : List Block) → Behind at bs → Every (IsFit m p i) bs → Every (λ b. IfSome (code_of (piece m t p i b)) (IsCode g)) bs → IsWalked m t p i end at bs
       → AllZip Names (now a (flat_map (block_at m p i) (spots (piece m t p i) end at bs))) (before at bs)
   blocks_words end at a [] behind fit code walked =
       subst (λ vs. AllZip Names vs (before at [])) (sym (gap_only j a j.size)) (subst (λ ws. AllZip Names [] ws) (sym (gap_only i at i.size)) tt)
   blocks_words end at a (b ∷ bs) behind fit code walked =
-      let size = body_size b.offset b.body fit.0 in
-      let counted = body_counted b.offset b.body fit.0 in
+      let size = size_kept m t p i b fit.0 in
+      let counted = size_counted m t p i b fit.0 in
       let room : IsRoom m t p i end at b bs = room_of m t p i end at b bs behind.0 size walked in
       let next : ℕ = end_at m t p i end at b in
       let more : List Block = flat_map (block_at m p i) (spots (piece m t p i) next (end_of b) bs) in

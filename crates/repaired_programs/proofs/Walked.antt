@@ -1,13 +1,15 @@
 -- How far new offsets and brought expressions have come at each block of an interval.
-use Rattle.std.proofs.Common.{◌≡◌, ℕ, suc, ◌+◌, ◌-◌, ◌*◌, ◌≤◌, ◌<◌, Bool, true, false, List, [], ◌∷◌, ◌++◌, length, refl, ap, ◌∙◌, subst, inl, inr, arith}
+use Rattle.std.proofs.Common.{◌≡◌, ℕ, suc, ◌+◌, ◌-◌, ◌*◌, ◌/◌, ◌%◌, ◌≤◌, ◌<◌, Bool, true, false, List, [], ◌∷◌, ◌++◌, length, refl, ap, ◌∙◌, subst, inl, inr, arith}
 use Rattle.std.specs.Prelude.{◌==◌, find, if◌then◌else◌, nat_lt}
 use Rattle.std.specs.List.{AllByRecursion as Every, flat_map}
 use Rattle.std.specs.Option.{option_or, option_to_list}
-use Rattle.std.proofs.lemmas.Bool.{cases_lt, eqb-true, le-ltb, lt-ltb}
+use Rattle.std.proofs.lemmas.Bool.{both_ways, cases_lt, eqb-true, le-ltb, lt-ltb}
 use Rattle.block_parts.specs.declared.words.PatchedWord.{PatchedWord}
 use Rattle.block_parts.specs.Words.{patched_words}
 use Rattle.gt_model.specs.declared.exprs.Expr.{Expr}
 use Rattle.gt_model.specs.declared.intervals.Block.{Block}
+use Rattle.gt_model.specs.declared.intervals.Body.{Body}
+use Rattle.gt_model.specs.declared.intervals.Body.TheVariants as bodies
 use Rattle.gt_model.specs.declared.intervals.Interval.{Interval}
 use Rattle.gt_model.specs.declared.modules.Module.{Module}
 use Rattle.rewrite.specs.Exprs.{brought_from, brought_in, news_of, origin_expr}
@@ -22,6 +24,7 @@ use Rattle.sym_expr.specs.Modules.{bytes_at, end_of, in_order, size_of}
 use Rattle.sym_expr.specs.Placing.{Placed, new_size, placed, placed_from}
 use Rattle.sym_expr.specs.Program.{piece, pieces, stretch}
 use Rattle.sym_expr.specs.Tables.{Tables}
+use Rattle.repaired_programs.proofs.Becomes.{IsFit, length-own_words, whole_code}
 use Rattle.repaired_programs.proofs.Found.{at_place, below_all, find_append, none_below}
 use Rattle.repaired_programs.proofs.Known.{IsCountedPiece}
 use Rattle.repaired_programs.proofs.Lists.{every_append, every_weaker}
@@ -207,3 +210,25 @@ module _ (m : Module) (t : Tables) (p : PatchTable) (i : Interval) where
         beyond = λ a ge. h.behind a ge;
         brings = λ k ge. h.brings k (omega (arith, ge)) ∙ ap (λ o. option_or o (find (at_place k) rest)) (none_below k next (brought_in m p place x) (piece_under m p place x counted) ge);
       }
+
+-- ---- what is known of each block
+
+module _ (m : Module) (t : Tables) (p : PatchTable) (i : Interval) where
+  body_size : (offset : ℕ) (body : Body) → let b : Block = record { offset = offset; body = body } in IsFit m p i b → old_size (piece m t p i b) ≡ size_of b
+  body_size offset bodies.Bare fit = absurd (both_ways true fit.bodied refl)
+  body_size offset (bodies.Code uuid size decode_mode) fit =
+      let words = length-own_words m p i offset (size / 4) in
+      let whole_size : size % 4 ≡ 0 = whole_code (record { offset = offset; body = bodies.Code uuid size decode_mode }) fit.straight refl in
+      omega (arith, words, whole_size)
+  body_size offset (bodies.Data uuid size) fit = length-bytes_at i offset size
+
+  body_counted : (offset : ℕ) (body : Body) → let b : Block = record { offset = offset; body = body } in IsFit m p i b → IsCountedPiece (piece m t p i b)
+  body_counted offset bodies.Bare fit = absurd (both_ways true fit.bodied refl)
+  body_counted offset (bodies.Code uuid size decode_mode) fit = fit.counted refl
+  body_counted offset (bodies.Data uuid size) fit = tt
+
+  pub size_kept : (b : Block) → IsFit m p i b → old_size (piece m t p i b) ≡ size_of b
+  size_kept b fit = body_size b.offset b.body fit
+
+  pub size_counted : (b : Block) → IsFit m p i b → IsCountedPiece (piece m t p i b)
+  size_counted b fit = body_counted b.offset b.body fit

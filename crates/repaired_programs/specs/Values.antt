@@ -8,11 +8,12 @@ use Rattle.gt_model.specs.declared.intervals.Interval.{Interval}
 use Rattle.gt_model.specs.declared.modules.Module.{Module}
 use Rattle.repaired_programs.specs.Named.{IsOneTarget}
 use Rattle.repaired_programs.specs.Programs.{repaired_program}
+use Rattle.rewrite.specs.Offsets.{new_offset}
 use Rattle.rewrite.specs.Places.{moved_tables}
 use Rattle.sym_expr.specs.declared.layout.Layout.{Layout}
 use Rattle.sym_expr.specs.declared.patches.PatchTable.{PatchTable}
 use Rattle.sym_expr.specs.Patches.{no_patches}
-use Rattle.sym_expr.specs.Program.{program}
+use Rattle.sym_expr.specs.Program.{program, stretch}
 use Rattle.sym_expr.specs.Tables.{Tables, expr_size}
 use Rattle.sym_expr.specs.Targets.{old_target}
 
@@ -33,3 +34,8 @@ IsOneValue m t p l (values.AddrAddr scale offset (Some id) (Some other)) = IsOne
 pub record IsOneExpr (m : Module) (t : Tables) (p : PatchTable) (l : Layout) (i : Interval) (e : Expr) : Type 0 where
   pub value : IsOneValue m t p l e.value
   pub size : expr_size (moved_tables m t p) i.uuid e.at ≡ expr_size t i.uuid e.at
+
+-- the same at the new place of its byte
+pub record IsOneMoved (m : Module) (t : Tables) (p : PatchTable) (l : Layout) (i : Interval) (e : Expr) : Type 0 where
+  pub value : IsOneValue m t p l e.value
+  pub size : expr_size (moved_tables m t p) i.uuid (new_offset (stretch m t p i) e.at) ≡ expr_size t i.uuid e.at

@@ -1,6 +1,6 @@
 //! Laws of the definitions: each function is its contract.
 
-ghost use Rattle.std.specs.Prelude.{◌≡◌, ◌≢◌, ◌<◌, ℕ, ◌+◌, ◌^◌, ℤ, false, true, List, find, length, AllPairs, IsSomeAnd, Some};
+ghost use Rattle.std.specs.Prelude.{◌≡◌, ◌≢◌, ◌<◌, ◌≤◌, ℕ, ◌+◌, ◌^◌, ℤ, false, true, List, find, length, map, AllPairs, IsSomeAnd, Some};
 ghost use Rattle.std.specs.List.{AllByRecursion, AllZip, flat_map, list_any};
 ghost use Rattle.std.specs.Str.{bytes_eq};
 ghost use Rattle.block_parts.specs.Parts.{parts};
@@ -11,7 +11,7 @@ ghost use Rattle.gt_model.specs.declared.symbols.Symbol.{Symbol};
 ghost use Rattle.repaired_programs.specs.Intervals.{AimsOne, BringsOne, NamesOne, SaysOne};
 ghost use Rattle.repaired_programs.specs.Named.{IsOneStretch, IsOneTarget};
 ghost use Rattle.repaired_programs.specs.Symbols.{IsLoadedPayload};
-ghost use Rattle.repaired_programs.specs.Values.{IsOneExpr, IsOneValue};
+ghost use Rattle.repaired_programs.specs.Values.{IsOneExpr, IsOneMoved, IsOneValue};
 ghost use Rattle.gt_model.specs.declared.exprs.Expr.{Expr};
 ghost use Rattle.gt_model.specs.declared.intervals.Interval.{Interval};
 ghost use Rattle.rewrite.specs.Rewritten.{has_words};
@@ -31,10 +31,11 @@ ghost use Rattle.sym_expr.specs.declared.program.Stretch.{Stretch};
 ghost use Rattle.sym_expr.specs.Images.{block_address, image, link_fault, point_address};
 ghost use Rattle.sym_expr.specs.Layouts.{address_of};
 ghost use Rattle.sym_expr.specs.Linkable.{formed};
-ghost use Rattle.sym_expr.specs.Modules.{loaded_intervals};
+ghost use Rattle.sym_expr.specs.Modules.{blocks_of, id_of, loaded_intervals};
 ghost use Rattle.sym_expr.specs.Placing.{placed, shape_of};
 ghost use Rattle.sym_expr.specs.Points.{code_blocks, code_size, ins};
-ghost use Rattle.sym_expr.specs.Program.{program};
+ghost use Rattle.rewrite.specs.Offsets.{new_offset};
+ghost use Rattle.sym_expr.specs.Program.{program, stretch};
 ghost use Rattle.sym_expr.specs.TableOk.{function_words, ids_ok, table_ok, typed_patches};
 ghost use Rattle.sym_expr.specs.Tables.{Tables};
 ghost use Rattle.sym_expr.specs.Targets.{old_target, point, start_of};
@@ -146,3 +147,26 @@ pub fn intervals_with_words_name_one()
     rewrite::laws::words_are_counted();
     sym_expr::laws::patched_programs_are_well_made();
 }
+
+/// In an interval where words are inserted its words and its data say one thing in both programs, where the symbols that its
+/// expressions and the inserted words name do, and where the moved sizes of its expressions are those that they had.
+pub fn intervals_with_words_say_one()
+    ensures { (ir : Ir) (m : Module) (t : Tables) (p : Patches) (l : Layout) → formed ir m t → length (loaded_intervals m) < 2 ^ 39 → table_ok m p → ids_ok ir m p → AllByRecursion (λ (x : Insert). AllByRecursion (AimsOne m t p l) x.body) p.inserts → AllByRecursion (λ (i : Interval). list_any (has_words p) i.blocks ≡ true → AllByRecursion (IsOneMoved m t p l i) i.exprs → SaysOne m t p l i) (loaded_intervals m) }
+{
+    block_parts::laws::words_are_of_images();
+    rewrite::laws::words_are_counted();
+    sym_expr::laws::patched_programs_are_well_made();
+}
+
+/// In an interval where no words are inserted each byte stays, and so does its end.
+pub fn bytes_stay_without_words()
+    ensures { (ir : Ir) (m : Module) (t : Tables) (p : Patches) → formed ir m t → length (loaded_intervals m) < 2 ^ 39 → table_ok m p → ids_ok ir m p → AllByRecursion (λ (i : Interval). list_any (has_words p) i.blocks ≡ false → (a : ℕ) → a ≤ i.size → new_offset (stretch m t p i) a ≡ a) (loaded_intervals m) }
+{
+    rewrite::laws::words_are_counted();
+    sym_expr::laws::patched_programs_are_well_made();
+}
+
+/// The blocks of a module's program without patches have identifiers of their own, where those of its loaded intervals do.
+pub fn blocks_of_programs_are_apart()
+    ensures { (m : Module) (t : Tables) → AllPairs (λ (a later : List ℕ). a ≢ later) (map id_of (blocks_of (loaded_intervals m))) → AllPairs (λ (a later : List ℕ). a ≢ later) (block_ids (program m t no_patches)) }
+{}

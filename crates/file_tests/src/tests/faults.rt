@@ -23,6 +23,9 @@ const FAULTS: &str = "
     ir 3004 1a ( 0b ) = wire type at 30
     ir 3004 28 80808080808080808002 = varint at 28
     ir 3004 1a ( 8080808080808080808001 ) = varint at 30
+    -- a run of almost as many bytes as a number can be, and of more
+    'GTIRB 000004 0a ffffffffffffffffff01 = truncated at 8
+    'GTIRB 000004 0a ffffffffffffffffff02 = varint at 8
     -- in a packed run, at the record of the run
     section 3202 0180 = truncated at 66
     section 3001 3202 0180 3000 = truncated at 68

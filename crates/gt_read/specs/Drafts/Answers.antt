@@ -14,9 +14,8 @@ use Rattle.gt_read.specs.declared.pieces.Piece.{Piece}
 use Rattle.gt_read.specs.Pieces as spec
 use Rattle.gt_read.specs.Pieces.{pieces}
 use Rattle.gt_read.specs.Kinds.{Run}
-use Rattle.gt_read.specs.Identifiers.{earlier}
 use Rattle.gt_read.specs.Faults.{first_of}
-use Rattle.gt_read.specs.Drafts.Draft.{DFields, empty, step, finished, worst}
+use Rattle.gt_read.specs.Drafts.Draft.{DFields, added, empty, step, finished, worst}
 
 -- a record of the program, with the bytes to which it refers
 abbrev pub carried : Carried → spec.Carried
@@ -86,7 +85,7 @@ TakesMember {D} {O} starts steps member made old (Some r) new = (draft : D) × (
 abbrev pub AddsRun : {D A : Type 0} (starts : ℕ → D → Type 0) (steps : D → spec.Piece → D → Type 0) (finishes : D → A → Option IdFault → Type 0) → List A → Option IdFault → Option Run → List A → Option IdFault → Type 0
 AddsRun starts steps finishes items fault None items' fault' = (items' ≡ items) × (fault' ≡ fault)
 AddsRun {D} {A} starts steps finishes items fault (Some r) items' fault' =
-    (made : A) × (more : Option IdFault) × WasRead starts steps finishes r.place (pieces r.bytes r.start) made more × (items' ≡ items ++ made ∷ []) × (fault' ≡ earlier fault more)
+    (made : A) × (more : Option IdFault) × WasRead starts steps finishes r.place (pieces r.bytes r.start) made more × ((items', fault') ≡ added (items, fault) (Some (made, more)))
 
 -- what an embedded message comes to, if there is one
 abbrev pub FinishesIf : {D A : Type 0} (finishes : D → A → Option IdFault → Type 0) → Option D → Option A → Option IdFault → Type 0

@@ -11,7 +11,7 @@ use Rattle.gt_read.specs.declared.ids.IdFault.{IdFault}
 use Rattle.gt_read.specs.Pieces.{Piece, pieces}
 use Rattle.gt_read.specs.Kinds.{Located, Read, value_of, values_of, Run, run_of}
 use Rattle.gt_read.specs.Meaning.{meaning, key_cmp, is_member, entry_of}
-use Rattle.gt_read.specs.Identifiers.{plain_bad, id_of, plain_of, bad, plain, earlier, least}
+use Rattle.gt_read.specs.Identifiers.{plain_bad, id_of, plain_of, bad, earlier, least}
 
 -- a plain field of a draft: an identifier keeps its place and its length
 abbrev pub Draft : Kind → Type 0
@@ -39,7 +39,8 @@ drafted_plain Unsigned32 v = v
 drafted_plain Signed32 v = v
 drafted_plain Flag v = v
 
--- a field of a draft: messages that can't grow any more are finished, beside the least fault in them
+-- a field of a draft: messages that can't grow any more are finished, beside the least fault in them; where there is
+-- one, the file means nothing, and a list of them is empty
 abbrev mutual
   pub DField : Row → Type 0
   DField (field number k) = Draft k
@@ -53,75 +54,6 @@ abbrev mutual
   pub DFields : Rows → Type 0
   DFields none = Unit {0}
   DFields (row & rows) = DField row × DFields rows
-
--- a message that is read whole: its value, and the least fault in it
-abbrev pub done : (rows : Rows) → Fields Read rows → Fields Plain rows × Option IdFault
-done rows v = (plain rows v, least (bad rows v))
-
-unfoldable mutual
-  pub drafted_field : (row : Row) → Field Read row → DField row
-  drafted_field (field number k) v = drafted_plain k v
-  drafted_field (repeated number k) vs = (map (plain_of k) vs, least (flat_map (plain_bad k) vs))
-  drafted_field (message number rows) v = option_map (λ w. drafted rows w) v
-  drafted_field (messages number rows) vs = (map (λ w. plain rows w) vs, least (flat_map (λ w. bad rows w) vs))
-  drafted_field (member members number k) v = option_map (drafted_plain k) v
-  drafted_field (member_message members number rows) v = option_map (λ w. drafted rows w) v
-  drafted_field (entries number k rows) es = map (λ (e : Read (key_kind k) × Fields Read rows). (e.0, done rows e.1)) es
-
-  -- the draft of a value
-  pub drafted : (rows : Rows) → Fields Read rows → DFields rows
-  drafted none vs = tt
-  drafted (row & rows) vs = (drafted_field row vs.0, drafted rows vs.1)
-
--- the draft of a message without records, of which the first stands at the place
-abbrev pub empty : (rows : Rows) → ℕ → DFields rows
-empty rows first = drafted rows (meaning rows first [])
-
--- a plain field after one more value, if there is one
-abbrev pub kept : {A B : Type 0} → (A → B) → B → Option A → B
-kept f old None = old
-kept f old (Some new) = f new
-
--- an embedded message after one more payload, if there is one
-abbrev pub opened : {D : Type 0} → (ℕ → D) → ℕ → Option D → D
-opened start place None = start place
-opened start place (Some d) = d
-
-abbrev pub entered : {D : Type 0} → (ℕ → D) → (D → Piece → D) → Option D → Option Run → Option D
-entered start step old None = old
-entered start step old (Some r) = Some (fold step (opened start r.place old) (pieces r.bytes r.start))
-
--- repeated messages after one more, if there is one
-abbrev pub added : {A : Type 0} → List A × Option IdFault → Option (A × Option IdFault) → List A × Option IdFault
-added old None = old
-added old (Some new) = (old.0 ++ new.0 ∷ [], earlier old.1 new.1)
-
--- repeated plain values after some more
-abbrev pub added_all : (k : Kind) → List (Plain k) × Option IdFault → List (Read k) → List (Plain k) × Option IdFault
-added_all k old new = (old.0 ++ map (plain_of k) new, earlier old.1 (least (flat_map (plain_bad k) new)))
-
--- a map after one more entry, if there is one
-abbrev pub entered_map : (k : Key) (rows : Rows) → List (Read (key_kind k) × (Fields Plain rows × Option IdFault)) → Option Run → List (Read (key_kind k) × (Fields Plain rows × Option IdFault))
-entered_map k rows old None = old
-entered_map k rows old (Some r) =
-    let e = entry_of k (λ place qs. meaning rows place qs) r in insert_entry (key_cmp k) old e.0 (done rows e.1)
-
-unfoldable mutual
-  -- a draft after one more record
-  pub step_field : (row : Row) → DField row → Piece → DField row
-  step_field (field number k) d p = if p.number == number then kept (drafted_plain k) d (value_of k p) else d
-  step_field (repeated number k) d p = if p.number == number then added_all k d (values_of k p) else d
-  step_field (message number rows) d p = if p.number == number then entered (empty rows) (λ e q. step rows e q) d (run_of p) else d
-  step_field (messages number rows) d p = if p.number == number then added d (option_map (λ (r : Run). done rows (meaning rows r.place (pieces r.bytes r.start))) (run_of p)) else d
-  step_field (member members number k) d p =
-      if is_member members p then (if p.number == number then kept (λ v. Some (drafted_plain k v)) d (value_of k p) else None) else d
-  step_field (member_message members number rows) d p =
-      if is_member members p then (if p.number == number then entered (empty rows) (λ e q. step rows e q) d (run_of p) else None) else d
-  step_field (entries number k rows) d p = if p.number == number then entered_map k rows d (run_of p) else d
-
-  pub step : (rows : Rows) → DFields rows → Piece → DFields rows
-  step none d p = tt
-  step (row & rows) d p = (step_field row d.0 p, step rows d.1 p)
 
 -- what a draft comes to: a plain field, and the fault in it
 abbrev pub finished_plain : (k : Kind) → Draft k → Plain k
@@ -185,3 +117,78 @@ unfoldable mutual
   pub worst : (rows : Rows) → DFields rows → Option IdFault
   worst none d = None
   worst (row & rows) d = earlier (worst_field row d.0) (worst rows d.1)
+
+-- repeated values beside the least fault in them: where there is one, none is kept
+abbrev pub lean : {A : Type 0} → List A → Option IdFault → List A × Option IdFault
+lean items None = (items, None)
+lean items (Some fault) = ([], Some fault)
+
+unfoldable mutual
+  pub drafted_field : (row : Row) → Field Read row → DField row
+  drafted_field (field number k) v = drafted_plain k v
+  drafted_field (repeated number k) vs = lean (map (plain_of k) vs) (least (flat_map (plain_bad k) vs))
+  drafted_field (message number rows) v = option_map (λ w. drafted rows w) v
+  drafted_field (messages number rows) vs = lean (map (λ w. finished rows (drafted rows w)) vs) (least (flat_map (λ w. bad rows w) vs))
+  drafted_field (member members number k) v = option_map (drafted_plain k) v
+  drafted_field (member_message members number rows) v = option_map (λ w. drafted rows w) v
+  drafted_field (entries number k rows) es = map (λ (e : Read (key_kind k) × Fields Read rows). (e.0, (finished rows (drafted rows e.1), least (bad rows e.1)))) es
+
+  -- the draft of a value
+  pub drafted : (rows : Rows) → Fields Read rows → DFields rows
+  drafted none vs = tt
+  drafted (row & rows) vs = (drafted_field row vs.0, drafted rows vs.1)
+
+-- a message that is read whole: what its draft comes to, and the least fault in it
+abbrev pub done : (rows : Rows) → Fields Read rows → Fields Plain rows × Option IdFault
+done rows v = (finished rows (drafted rows v), least (bad rows v))
+
+-- the draft of a message without records, of which the first stands at the place
+abbrev pub empty : (rows : Rows) → ℕ → DFields rows
+empty rows first = drafted rows (meaning rows first [])
+
+-- a plain field after one more value, if there is one
+abbrev pub kept : {A B : Type 0} → (A → B) → B → Option A → B
+kept f old None = old
+kept f old (Some new) = f new
+
+-- an embedded message after one more payload, if there is one
+abbrev pub opened : {D : Type 0} → (ℕ → D) → ℕ → Option D → D
+opened start place None = start place
+opened start place (Some d) = d
+
+abbrev pub entered : {D : Type 0} → (ℕ → D) → (D → Piece → D) → Option D → Option Run → Option D
+entered start step old None = old
+entered start step old (Some r) = Some (fold step (opened start r.place old) (pieces r.bytes r.start))
+
+-- repeated messages after one more, if there is one
+abbrev pub added : {A : Type 0} → List A × Option IdFault → Option (A × Option IdFault) → List A × Option IdFault
+added old None = old
+added old (Some new) = lean (old.0 ++ new.0 ∷ []) (earlier old.1 new.1)
+
+-- repeated plain values after some more
+abbrev pub added_all : (k : Kind) → List (Plain k) × Option IdFault → List (Read k) → List (Plain k) × Option IdFault
+added_all k old [] = old
+added_all k old (v ∷ vs) = lean (old.0 ++ map (plain_of k) (v ∷ vs)) (earlier old.1 (least (flat_map (plain_bad k) (v ∷ vs))))
+
+-- a map after one more entry, if there is one
+abbrev pub entered_map : (k : Key) (rows : Rows) → List (Read (key_kind k) × (Fields Plain rows × Option IdFault)) → Option Run → List (Read (key_kind k) × (Fields Plain rows × Option IdFault))
+entered_map k rows old None = old
+entered_map k rows old (Some r) =
+    let e = entry_of k (λ place qs. meaning rows place qs) r in insert_entry (key_cmp k) old e.0 (done rows e.1)
+
+unfoldable mutual
+  -- a draft after one more record
+  pub step_field : (row : Row) → DField row → Piece → DField row
+  step_field (field number k) d p = if p.number == number then kept (drafted_plain k) d (value_of k p) else d
+  step_field (repeated number k) d p = if p.number == number then added_all k d (values_of k p) else d
+  step_field (message number rows) d p = if p.number == number then entered (empty rows) (λ e q. step rows e q) d (run_of p) else d
+  step_field (messages number rows) d p = if p.number == number then added d (option_map (λ (r : Run). done rows (meaning rows r.place (pieces r.bytes r.start))) (run_of p)) else d
+  step_field (member members number k) d p =
+      if is_member members p then (if p.number == number then kept (λ v. Some (drafted_plain k v)) d (value_of k p) else None) else d
+  step_field (member_message members number rows) d p =
+      if is_member members p then (if p.number == number then entered (empty rows) (λ e q. step rows e q) d (run_of p) else None) else d
+  step_field (entries number k rows) d p = if p.number == number then entered_map k rows d (run_of p) else d
+
+  pub step : (rows : Rows) → DFields rows → Piece → DFields rows
+  step none d p = tt
+  step (row & rows) d p = (step_field row d.0 p, step rows d.1 p)

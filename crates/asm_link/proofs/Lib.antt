@@ -1,0 +1,10 @@
+pub mod ItemBytes
+pub mod ImageRules
+pub mod Indexing
+pub mod Keeping
+pub mod Lists
+pub mod Parts
+pub mod Places
+pub mod Shapes
+pub mod Sorting
+pub mod Whole

@@ -1,0 +1,11 @@
+pub mod Escaping
+pub mod Texts
+pub mod Spaced
+pub mod Fragments
+pub mod Numbers
+pub mod Marks
+pub mod Items
+pub mod Forms
+pub mod Instructions
+pub mod Opened
+pub mod Taken
