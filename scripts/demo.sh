@@ -8,8 +8,9 @@ command -v rt >/dev/null || { echo "demo: the Rattle kit's rt is not on the path
 work=$(mktemp -d) || exit 1
 trap 'rm -rf "$work"' EXIT
 examples=$PWD/../../examples
-mkdir "$work/images" "$work/to_patch"
+mkdir "$work/images" "$work/to_patch" "$work/to_print"
 cp "$examples/programs/checksum_o1.gtirb" "$work/to_patch"
+cp "$examples/programs/exit_three.gtirb" "$work/to_print"
 
 # A job's words, the folder whose files it takes one by one from standard input, and each file with the exit
 # status and the line that is answered.
@@ -35,6 +36,7 @@ sim exit_three.gtirb 0 steps=4 exit 3
 sim checksum_o1.gtirb 0 steps=23708 exit 0
 sim checksum_os.gtirb 0 steps=22145 exit 0
 patched checksum_o1.gtirb 0 done bytes=4620
+printed exit_three.gtirb 0 done bytes=136
 linked exit_three.gtirb 0 steps=4 exit 3
 linked checksum_o1.gtirb 0 steps=23708 exit 0
 linked checksum_os.gtirb 0 steps=22145 exit 0
@@ -78,8 +80,11 @@ while IFS='|' read -r words folder; do
 done <<<"$jobs"
 [ "$(jobs -rp | wc -l)" -lt 2 ] || wait -n
 job patched "link in=- out=- plain=*" "$work/to_patch" "patch=$examples/patches/checksum_o1.patch" &
+[ "$(jobs -rp | wc -l)" -lt 2 ] || wait -n
+job printed "print in=- out=- plain=*" "$work/to_print" &
 wait
 while IFS='|' read -r words folder; do show "${words%% *}" "$words" "examples/$folder"; done <<<"$jobs"
+show printed "print in=- out=- plain=*" "exit_three.gtirb"
 show patched "link in=- out=- plain=* patch=examples/patches/checksum_o1.patch" "checksum_o1.gtirb"
 keep_images link ""
 keep_images patched patched-

@@ -29,6 +29,11 @@ after place (lines.Interval uuid align residue) = Inside uuid align 0
 after place (lines.Item item) = behind_item place (item_size item)
 after place _ = place
 
+-- how many bytes of its interval stand ahead of a place
+abbrev pub bytes_ahead : Place → ℕ
+bytes_ahead (Inside uuid align offset) = offset
+bytes_ahead place = 0
+
 -- where the line behind these stands
 abbrev pub place_at : List AsmLine → Place
 place_at before = fold after Ahead before

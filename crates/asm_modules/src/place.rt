@@ -1,7 +1,7 @@
 //! Where in a text a line stands, and which lines may stand there.
 
-ghost use Rattle.std.specs.Prelude.{◌≡◌, IfSome};
-ghost use Rattle.asm_modules.specs.Places.{after, behind_item, can_enter, is_ahead, is_inside, item_size, may_stand};
+ghost use Rattle.std.specs.Prelude.{◌≡◌, ◌≤◌, ◌^◌, IfSome, IfNone};
+ghost use Rattle.asm_modules.specs.Places.{after, behind_item, bytes_ahead, can_enter, is_ahead, is_inside, item_size, may_stand};
 
 use asm_lines::{AsmItem, AsmLine};
 use uuid::Uuid;
@@ -32,7 +32,8 @@ fn item_size(item: &AsmItem) -> u64
 
 /// The same place behind an item, if its offset is a number of 64 bits.
 fn behind_item(place: Place, size: u64) -> Option<Place>
-    ensures { IfSome result (λ behind. behind ≡ behind_item place size) }
+    ensures place { IfSome result (λ behind. behind ≡ behind_item place size) }
+    ensures far { IfNone result (2 ^ 64 ≤ bytes_ahead (behind_item place size)) }
 {
     match place {
         Place::Inside(uuid, align, offset) => {
@@ -45,7 +46,8 @@ fn behind_item(place: Place, size: u64) -> Option<Place>
 
 /// Where the line behind it stands, if its offset is a number of 64 bits.
 pub fn after(place: Place, line: &AsmLine) -> Option<Place>
-    ensures { IfSome result (λ behind. behind ≡ after place line.now) }
+    ensures place { IfSome result (λ behind. behind ≡ after place line.now) }
+    ensures far { IfNone result (2 ^ 64 ≤ bytes_ahead (after place line.now)) }
 {
     match line {
         AsmLine::Section(_) => Some(Place::Section),
